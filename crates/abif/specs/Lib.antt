@@ -1,0 +1,4 @@
+pub mod Entry
+pub mod Directory
+pub mod Judge
+pub mod Lookup

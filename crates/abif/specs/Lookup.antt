@@ -1,0 +1,53 @@
+-- ABIF: lookup of a tag.
+-- Assumes nothing.
+use Prim.Native.Nat.{ℕ, zero, suc, _+_, _-_, _*_}
+use mathlib.Core.List.{List}
+use lib.Dec.{leb, ltb, eqb}
+use Rattle.reading.specs.Choice.{pick}
+use Rattle.reading.specs.Check.{Check, Answer, ok, refused, done, provided, _>>=_, _>>_}
+use Rattle.reading.specs.Part.{Span}
+use Rattle.abif.specs.declared.entry.Entry.{Entry}
+use Rattle.abif.specs.declared.lookup.Found.{Found}
+use Rattle.abif.specs.declared.lookup.Found.the-variants.{Data, None}
+use Rattle.abif.specs.Entry.{entryOf, hasTag, entryCheck}
+use Rattle.abif.specs.Directory.{directory}
+
+-- the first of the n entries from entry i on with the tag (a, b), or the number past the last one
+unfoldable pub firstTag : List ℕ → ℕ → ℕ → ℕ → ℕ → ℕ → ℕ
+firstTag h p a b zero i = i
+firstTag h p a b (suc n) i = pick (hasTag (entryOf h (p + 28 * i)) a b) i (firstTag h p a b n (i + 1))
+
+-- an item's data: where they stand, with the type and the count
+pub record ItemData : Type 0 where
+  pub start : ℕ
+  pub size : ℕ
+  pub type : ℕ
+  pub count : ℕ
+
+-- data of 4 bytes or fewer are the first bytes of the entry's own offset field
+unfoldable pub dataOf : Entry → ItemData
+dataOf d = record { start = pick (leb (d .«data_size») 4) (d .place + 20) (d .«data_offset»); size = d .«data_size»; type = d .«element_type»; count = d .«element_count» }
+
+-- lookup in a directory: no entry 7, two or more 8, then that entry's checks
+unfoldable pub lookupIn : List ℕ → ℕ → ℕ → ℕ → ℕ → Check ItemData
+lookupIn h p n a b =
+    let i = firstTag h p a b n 0 in
+    do
+      provided (ltb i n) 7
+      provided (eqb (firstTag h p a b (n - (i + 1)) (i + 1)) n) 8
+      _ ← entryCheck (entryOf h (p + 28 * i))
+      done (dataOf (entryOf h (p + 28 * i)))
+
+unfoldable pub lookingUp : ℕ → ℕ → Check ItemData
+lookingUp a b = do
+  d ← directory
+  lookupIn (d .upTo) (d .place) (d .count) a b
+
+-- the paper's answer that each case stands for
+abbrev pub found : Found → Answer ItemData
+found (Data s n k c) = ok (record { start = s; size = n; type = k; count = c })
+found (None n) = refused n 0
+
+-- where the part that lookup hands back stands
+abbrev pub dataSpan : ItemData → Span
+dataSpan q = record { start = q .start; size = q .size }

@@ -1,0 +1,260 @@
+// A directory entry and its checks.
+use reading::check::Field;
+use reading::check::Rule;
+use reading::check::Test;
+use reading::check::Tested;
+use reading::number::be16;
+use reading::number::be32;
+ghost use mathlib.Core.Path.{_≡_};
+ghost use mathlib.Core.List.{List};
+ghost use Prim.Native.Nat.{ℕ, _+_, _≤_, _<_};
+ghost use lib.ListN.{length};
+ghost use Rattle.reading.specs.Check.{run};
+ghost use Rattle.reading.specs.Explain.{tested};
+ghost use Rattle.abif.specs.Entry.{entryOf, hasTag, typeOf, listedCheck, rawCheck, sizesCheck, placeCheck, entryCheck, item};
+
+// A directory entry with its place; a signed field as its unsigned number.
+pub struct Entry {
+    pub place: usize,
+    pub name: u32,
+    pub number: u32,
+    pub element_type: u16,
+    pub element_size: u16,
+    pub element_count: u32,
+    pub data_size: u32,
+    pub data_offset: u32,
+}
+
+// What an element type is: listed with its element size, raw bytes, or not handled.
+pub enum ElementType {
+    Listed(u16),
+    Raw,
+    Unknown,
+}
+
+// What an entry's checks find: the end of its data (0 for data in the entry), the first test that fails, or the bytes that are missing, by
+// their start and end.
+pub enum Item {
+    End(usize),
+    Bad(Test),
+    Short(usize, usize),
+}
+
+pub(crate) fn entry_at(h: &[u8], p: usize) -> Entry
+    requires { ⌜ p + 28 ≤ length (now h) ⌝ }
+    ensures { λ r. ⌜ (r ≡ entryOf (now (h .entry)) p) × (r .place ≡ p) ⌝ }
+{
+    Entry {
+        place: p,
+        name: be32(h, p),
+        number: be32(h, p + 4),
+        element_type: be16(h, p + 8),
+        element_size: be16(h, p + 10),
+        element_count: be32(h, p + 12),
+        data_size: be32(h, p + 16),
+        data_offset: be32(h, p + 20),
+    }
+}
+
+// The entry at place p has the tag of this name and number.
+pub(crate) fn has_tag(h: &[u8], p: usize, name: u32, number: u32) -> bool
+    requires { ⌜ p + 28 ≤ length (now h) ⌝ }
+    ensures { λ r. ⌜ r ≡ hasTag (entryOf (now (h .entry)) p) name number ⌝ }
+{
+    if be32(h, p) == name {
+        return be32(h, p + 4) == number;
+    }
+    false
+}
+
+pub fn type_of(k: u16) -> ElementType
+    ensures { λ r. ⌜ r ≡ typeOf k ⌝ }
+{
+    match k {
+        1 => ElementType::Listed(1),
+        2 => ElementType::Listed(1),
+        3 => ElementType::Listed(2),
+        4 => ElementType::Listed(2),
+        5 => ElementType::Listed(4),
+        7 => ElementType::Listed(4),
+        8 => ElementType::Listed(8),
+        10 => ElementType::Listed(4),
+        11 => ElementType::Listed(4),
+        12 => ElementType::Listed(10),
+        13 => ElementType::Listed(1),
+        18 => ElementType::Listed(1),
+        19 => ElementType::Listed(1),
+        6 | 9 | 14 | 15 | 16 | 17 | 20 | 128 | 256 | 384 => ElementType::Raw,
+        1024..=32767 => ElementType::Raw,
+        _ => ElementType::Unknown,
+    }
+}
+
+fn listed_tests(w: u16, d: Entry) -> Tested
+    requires { ⌜ d .place < 0x8000000000000000 ⌝ }
+    ensures { λ r. ⌜ ((l : List ℕ) → tested r ≡ run (listedCheck w d) l) ⌝ }
+{
+    let width = Field {
+        place: d.place + 10,
+        width: 2,
+        sign: true,
+        value: d.element_size as u64,
+    };
+    let count = Field {
+        place: d.place + 12,
+        width: 4,
+        sign: true,
+        value: d.element_count as u64,
+    };
+    let size = Field {
+        place: d.place + 16,
+        width: 4,
+        sign: true,
+        value: d.data_size as u64,
+    };
+    if d.element_size != w {
+        return Tested::Failed(Test {
+            field: width,
+            rule: Rule::Exactly(w as u64),
+            number: 9,
+        });
+    }
+    if 0x8000_0000 <= d.element_count {
+        return Tested::Failed(Test {
+            field: count,
+            rule: Rule::NotNegative,
+            number: 9,
+        });
+    }
+    let whole = w as u64 * d.element_count as u64;
+    if 0x8000_0000 <= d.data_size {
+        return Tested::Failed(Test {
+            field: size,
+            rule: Rule::EqualTo(whole),
+            number: 9,
+        });
+    }
+    if d.data_size as u64 != whole {
+        return Tested::Failed(Test {
+            field: size,
+            rule: Rule::EqualTo(whole),
+            number: 9,
+        });
+    }
+    Tested::Passed
+}
+
+fn raw_tests(d: Entry) -> Tested
+    requires { ⌜ d .place < 0x8000000000000000 ⌝ }
+    ensures { λ r. ⌜ ((l : List ℕ) → tested r ≡ run (rawCheck d) l) ⌝ }
+{
+    let width = Field {
+        place: d.place + 10,
+        width: 2,
+        sign: true,
+        value: d.element_size as u64,
+    };
+    let count = Field {
+        place: d.place + 12,
+        width: 4,
+        sign: true,
+        value: d.element_count as u64,
+    };
+    let size = Field {
+        place: d.place + 16,
+        width: 4,
+        sign: true,
+        value: d.data_size as u64,
+    };
+    if 0x8000 <= d.element_size {
+        return Tested::Failed(Test {
+            field: width,
+            rule: Rule::NotNegative,
+            number: 9,
+        });
+    }
+    if 0x8000_0000 <= d.element_count {
+        return Tested::Failed(Test {
+            field: count,
+            rule: Rule::NotNegative,
+            number: 9,
+        });
+    }
+    if 0x8000_0000 <= d.data_size {
+        return Tested::Failed(Test {
+            field: size,
+            rule: Rule::NotNegative,
+            number: 9,
+        });
+    }
+    Tested::Passed
+}
+
+fn sizes_tests(k: ElementType, d: Entry) -> Tested
+    requires { ⌜ d .place < 0x8000000000000000 ⌝ }
+    ensures { λ r. ⌜ ((l : List ℕ) → tested r ≡ run (sizesCheck k d) l) ⌝ }
+{
+    match k {
+        ElementType::Listed(w) => listed_tests(w, d),
+        ElementType::Raw => raw_tests(d),
+        ElementType::Unknown => {
+            let code = Field {
+                place: d.place + 8,
+                width: 2,
+                sign: true,
+                value: d.element_type as u64,
+            };
+            Tested::Failed(Test {
+                field: code,
+                rule: Rule::Other(1, false),
+                number: 10,
+            })
+        }
+    }
+}
+
+fn place_tests(s: &[u8], d: Entry) -> Item
+    requires { ⌜ d .place < 0x8000000000000000 ⌝ }
+    ensures { λ r. ⌜ item r ≡ run (placeCheck d) (now (s .entry)) ⌝ }
+{
+    let offset = Field {
+        place: d.place + 20,
+        width: 4,
+        sign: true,
+        value: d.data_offset as u64,
+    };
+    if d.data_size <= 4 {
+        return Item::End(0);
+    }
+    if 0x8000_0000 <= d.data_offset {
+        return Item::Bad(Test {
+            field: offset,
+            rule: Rule::AtLeast(128),
+            number: 6,
+        });
+    }
+    if d.data_offset < 128 {
+        return Item::Bad(Test {
+            field: offset,
+            rule: Rule::AtLeast(128),
+            number: 6,
+        });
+    }
+    let start = d.data_offset as usize;
+    let end = start + d.data_size as usize;
+    if s.len() < end {
+        return Item::Short(start, end);
+    }
+    Item::End(end)
+}
+
+pub(crate) fn entry_tests(s: &[u8], d: Entry) -> Item
+    requires { ⌜ d .place < 0x8000000000000000 ⌝ }
+    ensures { λ r. ⌜ item r ≡ run (entryCheck d) (now (s .entry)) ⌝ }
+{
+    let k = type_of(d.element_type);
+    if let Tested::Failed(t) = sizes_tests(k, d) {
+        return Item::Bad(t);
+    }
+    place_tests(s, d)
+}

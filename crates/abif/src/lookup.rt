@@ -1,0 +1,103 @@
+// Lookup of a tag, by its name and number.
+use crate::directory::Opened;
+use crate::directory::open;
+use crate::entry::Item;
+use crate::entry::entry_at;
+use crate::entry::entry_tests;
+use crate::entry::has_tag;
+use reading::part::part;
+ghost use mathlib.Core.Path.{_≡_};
+ghost use Prim.Native.Nat.{_+_, _-_, _*_, _≤_};
+ghost use lib.ListN.{length};
+ghost use Rattle.reading.specs.Check.{answer, mapAnswer};
+ghost use Rattle.reading.specs.Part.{shown, handedBack};
+ghost use Rattle.abif.specs.Lookup.{firstTag, lookupIn, lookingUp, found, dataSpan};
+
+// What lookup finds: where the data stand, with the type and the count, or the refusal.
+pub enum Found {
+    Data {
+        start: usize,
+        size: usize,
+        element_type: u16,
+        count: u32,
+    },
+    None(u8),
+}
+
+fn first_tag(h: &[u8], p: usize, name: u32, number: u32, from: usize, n: usize) -> usize
+    requires { ⌜ (p + 28 * n ≤ length (now h)) × (from ≤ n) ⌝ }
+    ensures { λ r. ⌜ (r ≡ firstTag (now (h .entry)) p name number (n - from) from) × (r ≤ n) ⌝ }
+{
+    let mut i = from;
+    while i < n {
+        if has_tag(h, p + 28 * i, name, number) {
+            return i;
+        }
+        i += 1;
+    }
+    i
+}
+
+fn lookup_in(s: &[u8], h: &[u8], p: usize, n: usize, name: u32, number: u32) -> Found
+    requires { ⌜ p + 28 * n ≤ length (now h) ⌝ }
+    ensures { λ r. ⌜ found r ≡ answer (lookupIn (now (h .entry)) p n name number) (now (s .entry)) ⌝ }
+{
+    let i = first_tag(h, p, name, number, 0, n);
+    if n <= i {
+        return Found::None(7);
+    }
+    let j = first_tag(h, p, name, number, i + 1, n);
+    if j != n {
+        return Found::None(8);
+    }
+    let q = p + 28 * i;
+    let d = entry_at(h, q);
+    match entry_tests(s, d) {
+        Item::Bad(t) => Found::None(t.number),
+        Item::Short(_, _) => Found::None(1),
+        Item::End(_) => {
+            let size = d.data_size as usize;
+            let start = if size <= 4 {
+                q + 20
+            } else {
+                d.data_offset as usize
+            };
+            Found::Data {
+                start,
+                size,
+                element_type: d.element_type,
+                count: d.element_count,
+            }
+        }
+    }
+}
+
+pub fn lookup(s: &[u8], name: u32, number: u32) -> Found
+    ensures { λ r. ⌜ found r ≡ answer (lookingUp name number) (now (s .entry)) ⌝ }
+{
+    match open(s) {
+        Opened::Refused(n) => Found::None(n),
+        Opened::At { place, count } => {
+            let p = place as usize;
+            let n = count as usize;
+            let end = p + 28 * n;
+            let h = &s[..end];
+            lookup_in(s, h, p, n, name, number)
+        }
+    }
+}
+
+// The data of a tag, as a part of the caller's bytes; the empty part at their start where lookup refuses.
+pub fn data_of(s: &[u8], name: u32, number: u32) -> &[u8]
+    ensures { λ r. ⌜ shown r ≡ handedBack (shown (s .entry)) (mapAnswer dataSpan (answer (lookingUp name number) (now (s .entry)))) ⌝ }
+{
+    match lookup(s, name, number) {
+        Found::None(_) => part(s, 0, 0),
+        Found::Data {
+            start,
+            size,
+            element_type: _,
+            count: _,
+        } => part(s, start, size),
+    }
+}

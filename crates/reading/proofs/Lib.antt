@@ -1,0 +1,12 @@
+pub mod Cut
+pub mod Steps
+pub mod Passed
+pub mod Reach
+pub mod Loop
+pub mod Parts
+pub mod Product
+pub mod Signs
+pub mod Signed
+pub mod Floats
+pub mod Tests
+pub mod Width

@@ -1,0 +1,82 @@
+-- Numbers of w bytes, big-endian and little-endian alike: the laws are of `number`, over the width.
+-- Assumes nothing.
+use Prim.Native.Nat.{ℕ, zero, suc, _+_, _-_, _*_, _/_, _%_, _^_, _<_, _≤_}
+use mathlib.Core.Path.{_≡_, refl, _∙_, ap}
+use mathlib.Core.List.{List}
+use native.Mathlib.Omega.{arith}
+use native.Mathlib.Nat.{add-zero, add-suc, add-assoc, add-mul, mul-assoc, mul-comm, mul-le-mul-right, pow-suc, pow-succ'}
+use lib.Arith.{mod-mul}
+use lib.Dec.{lit<}
+use lib.ListN.{length, take, getD, List·getD-eq-default}
+use lib.Pow.{pow-add}
+use lib.Seq.{getD-take}
+use Rattle.reading.specs.Number.{number, be, le}
+
+-- a number of w bytes is below 256 ^ w
+pub number-below : (w : ℕ) (d : ℕ → ℕ) → ((i : ℕ) → d i < 256) → number w d < 256 ^ w
+number-below zero d h = omega arith
+number-below (suc w) d h =
+    let ih : number w d < 256 ^ w = number-below w d h in
+    let b : d w ≤ 255 = omega (arith, h w) in
+    let m : d w * 256 ^ w ≤ 255 * 256 ^ w = mul-le-mul-right (256 ^ w) b in
+    omega (arith, pow-suc 256 w)
+
+-- it is made of its w bytes
+pub number-same : (w : ℕ) (d e : ℕ → ℕ) → ((i : ℕ) → i < w → d i ≡ e i) → number w d ≡ number w e
+number-same zero d e h = refl
+number-same (suc w) d e h = rw (number-same w d e (λ i q. h i (omega arith)), h w (omega arith))
+
+-- so a number that lies within the first m bytes is the same in them
+module _ (m w p : ℕ) (s : List ℕ) (q : p + w ≤ m) where
+  pub be-take : be w (take m s) p ≡ be w s p
+  unfolding be
+  be-take = number-same w _ _ (λ i h. getD-take m s (p + (w - suc i)) 0 (omega arith))
+
+  pub le-take : le w (take m s) p ≡ le w s p
+  unfolding le
+  le-take = number-same w _ _ (λ i h. getD-take m s (p + i) 0 (omega arith))
+
+-- bytes past the end read as 0
+number-zero : (w : ℕ) (d : ℕ → ℕ) → ((i : ℕ) → d i ≡ 0) → number w d ≡ 0
+number-zero zero d h = refl
+number-zero (suc w) d h = rw (number-zero w d h, h w) (omega arith)
+
+module _ (w p : ℕ) (s : List ℕ) (q : length s ≤ p) where
+  pub be-past : be w s p ≡ 0
+  unfolding be
+  be-past = number-zero w _ (λ i. List·getD-eq-default s 0 (omega arith))
+
+  pub le-past : le w s p ≡ 0
+  unfolding le
+  le-past = number-zero w _ (λ i. List·getD-eq-default s 0 (omega arith))
+
+-- a number of v + w bytes is one of the lower v and one of the upper w
+pub number-split : (v w : ℕ) (d : ℕ → ℕ) → number (v + w) d ≡ number v d + number w (λ i. d (v + i)) * 256 ^ v
+number-split v zero d = rw (add-zero v) (omega arith)
+number-split v (suc w) d =
+    let e : d (v + w) * 256 ^ (v + w) ≡ d (v + w) * 256 ^ w * 256 ^ v = rw (pow-add 256 v w, mul-comm (256 ^ v) (256 ^ w), mul-assoc) in
+    rw (add-suc v w, number-split v w d, add-mul) (omega arith)
+
+-- big-endian and little-endian alike
+module _ (v w : ℕ) (s : List ℕ) (p : ℕ) where
+  pub be-split : be (v + w) s p ≡ be v s (p + w) + be w s p * 256 ^ v
+  unfolding be
+  be-split =
+      let lower = number-same v (λ i. getD s (p + (v + w - suc i)) 0) (λ i. getD s (p + w + (v - suc i)) 0) (λ i h. ap (λ (k : ℕ). getD s k 0) (omega arith)) in
+      let upper = number-same w (λ i. getD s (p + (v + w - suc (v + i))) 0) (λ i. getD s (p + (w - suc i)) 0) (λ i h. ap (λ (k : ℕ). getD s k 0) (omega arith)) in
+      number-split v w _ ∙ rw (lower, upper)
+
+  pub le-split : le (v + w) s p ≡ le v s p + le w s (p + v) * 256 ^ v
+  unfolding le
+  le-split = number-split v w _ ∙ simp add-assoc
+
+pow-pos′ : (w : ℕ) → 0 < 256 ^ w
+pow-pos′ zero = omega arith
+pow-pos′ (suc w) =
+    let p : 0 < 256 ^ w = pow-pos′ w in
+    omega (arith, pow-suc 256 w)
+
+-- the number made of a number's bytes
+pub number-of : (w n : ℕ) → number w (λ i. n / 256 ^ i % 256) ≡ n % 256 ^ w
+number-of zero n = omega arith
+number-of (suc w) n = rw (number-of w n, pow-succ' 256 w, mod-mul n {m = 256} {c = 256 ^ w} (lit< tt) (pow-pos′ w)) (omega arith)

@@ -1,0 +1,6 @@
+pub mod Choice
+pub mod Number
+pub mod Check
+pub mod Explain
+pub mod Demand
+pub mod Part

@@ -1,0 +1,87 @@
+//! Counts of a test group and the messages for its first mismatches.
+
+use std::fmt::Write;
+use std::time::{Duration, Instant};
+use std::{env, fs, process};
+
+const SHOWN_MISMATCHES: u64 = 3;
+const MOST_BYTES_SHOWN: usize = 1024;
+
+pub struct Group {
+    name: &'static str,
+    start: Instant,
+    inputs: u64,
+    comparisons: u64,
+    mismatches: u64,
+}
+
+impl Group {
+    pub fn new(name: &'static str) -> Group {
+        Group {
+            name,
+            start: Instant::now(),
+            inputs: 0,
+            comparisons: 0,
+            mismatches: 0,
+        }
+    }
+
+    pub fn input(&mut self) {
+        self.inputs += 1;
+    }
+
+    /// Counts one comparison and, where it fails, shows the message and the file.
+    pub fn check(&mut self, holds: bool, bytes: &[u8], message: impl FnOnce() -> String) {
+        self.comparisons += 1;
+        if holds {
+            return;
+        }
+        self.mismatches += 1;
+        if self.mismatches <= SHOWN_MISMATCHES {
+            println!("{}: mismatch {}", self.name, self.mismatches);
+            println!("  {}", message());
+            println!("  {}", self.describe(bytes));
+        }
+    }
+
+    fn describe(&self, bytes: &[u8]) -> String {
+        let length = bytes.len();
+        if length <= MOST_BYTES_SHOWN {
+            return format!("file of {length} bytes: {}", hex(bytes));
+        }
+        let name = format!(
+            "compare-{}-{}-{}.bin",
+            process::id(),
+            self.name.replace(' ', "-"),
+            self.mismatches
+        );
+        let path = env::temp_dir().join(name);
+        match fs::write(&path, bytes) {
+            Ok(()) => format!("file of {length} bytes: stored as {}", path.display()),
+            Err(error) => format!("file of {length} bytes, not stored: {error}"),
+        }
+    }
+
+    /// Prints the group's line and tells whether the group passed.
+    pub fn finish(self) -> bool {
+        let time: Duration = self.start.elapsed();
+        let passed = self.mismatches == 0 && self.comparisons > 0;
+        println!(
+            "{} {}: {} inputs, {} comparisons, {} mismatches, {:.2} s",
+            if passed { "ok    " } else { "FAILED" },
+            self.name,
+            self.inputs,
+            self.comparisons,
+            self.mismatches,
+            time.as_secs_f64()
+        );
+        passed
+    }
+}
+
+fn hex(bytes: &[u8]) -> String {
+    bytes.iter().fold(String::new(), |mut text, byte| {
+        let _ = write!(text, "{byte:02X} ");
+        text
+    })
+}
