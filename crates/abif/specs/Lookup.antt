@@ -7,8 +7,9 @@ use Rattle.reading.specs.Choice.{pick}
 use Rattle.reading.specs.Check.{Check, Answer, ok, refused, done, provided, _>>=_, _>>_}
 use Rattle.reading.specs.Part.{Span}
 use Rattle.abif.specs.declared.entry.Entry.{Entry}
+use Rattle.abif.specs.declared.lookup.ItemData.{ItemData}
 use Rattle.abif.specs.declared.lookup.Found.{Found}
-use Rattle.abif.specs.declared.lookup.Found.the-variants.{Data, None}
+use Rattle.abif.specs.declared.lookup.Found.the-variants.{Data, Refused}
 use Rattle.abif.specs.Entry.{entryOf, hasTag, entryCheck}
 use Rattle.abif.specs.Directory.{directory}
 
@@ -17,16 +18,9 @@ unfoldable pub firstTag : List ℕ → ℕ → ℕ → ℕ → ℕ → ℕ → �
 firstTag h p a b zero i = i
 firstTag h p a b (suc n) i = pick (hasTag (entryOf h (p + 28 * i)) a b) i (firstTag h p a b n (i + 1))
 
--- an item's data: where they stand, with the type and the count
-pub record ItemData : Type 0 where
-  pub start : ℕ
-  pub size : ℕ
-  pub type : ℕ
-  pub count : ℕ
-
 -- data of 4 bytes or fewer are the first bytes of the entry's own offset field
 unfoldable pub dataOf : Entry → ItemData
-dataOf d = record { start = pick (leb (d .«data_size») 4) (d .place + 20) (d .«data_offset»); size = d .«data_size»; type = d .«element_type»; count = d .«element_count» }
+dataOf d = record { start = pick (leb (d .«data_size») 4) (d .place + 20) (d .«data_offset»); size = d .«data_size»; «element_type» = d .«element_type»; count = d .«element_count» }
 
 -- lookup in a directory: no entry 7, two or more 8, then that entry's checks
 unfoldable pub lookupIn : List ℕ → ℕ → ℕ → ℕ → ℕ → Check ItemData
@@ -45,8 +39,8 @@ lookingUp a b = do
 
 -- the paper's answer that each case stands for
 abbrev pub found : Found → Answer ItemData
-found (Data s n k c) = ok (record { start = s; size = n; type = k; count = c })
-found (None n) = refused n 0
+found (Data q) = ok q
+found (Refused n) = refused n 0
 
 -- where the part that lookup hands back stands
 abbrev pub dataSpan : ItemData → Span

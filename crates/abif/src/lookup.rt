@@ -13,15 +13,18 @@ ghost use Rattle.reading.specs.Check.{answer, mapAnswer};
 ghost use Rattle.reading.specs.Part.{shown, handedBack};
 ghost use Rattle.abif.specs.Lookup.{firstTag, lookupIn, lookingUp, found, dataSpan};
 
-// What lookup finds: where the data stand, with the type and the count, or the refusal.
+// An item's data: where they stand, with the type and the count.
+pub struct ItemData {
+    pub start: usize,
+    pub size: usize,
+    pub element_type: u16,
+    pub count: u32,
+}
+
+// What lookup finds, or the refusal.
 pub enum Found {
-    Data {
-        start: usize,
-        size: usize,
-        element_type: u16,
-        count: u32,
-    },
-    None(u8),
+    Data(ItemData),
+    Refused(u8),
 }
 
 fn first_tag(h: &[u8], p: usize, name: u32, number: u32, from: usize, n: usize) -> usize
@@ -44,17 +47,17 @@ fn lookup_in(s: &[u8], h: &[u8], p: usize, n: usize, name: u32, number: u32) -> 
 {
     let i = first_tag(h, p, name, number, 0, n);
     if n <= i {
-        return Found::None(7);
+        return Found::Refused(7);
     }
     let j = first_tag(h, p, name, number, i + 1, n);
     if j != n {
-        return Found::None(8);
+        return Found::Refused(8);
     }
     let q = p + 28 * i;
     let d = entry_at(h, q);
     match entry_tests(s, d) {
-        Item::Bad(t) => Found::None(t.number),
-        Item::Short(_, _) => Found::None(1),
+        Item::Bad(t) => Found::Refused(t.number),
+        Item::Short(_, _) => Found::Refused(1),
         Item::End(_) => {
             let size = d.data_size as usize;
             let start = if size <= 4 {
@@ -62,21 +65,22 @@ fn lookup_in(s: &[u8], h: &[u8], p: usize, n: usize, name: u32, number: u32) -> 
             } else {
                 d.data_offset as usize
             };
-            Found::Data {
+            Found::Data(ItemData {
                 start,
                 size,
                 element_type: d.element_type,
                 count: d.element_count,
-            }
+            })
         }
     }
 }
 
+// The item with the tag of this name and number, which is given by its 32 bits.
 pub fn lookup(s: &[u8], name: u32, number: u32) -> Found
     ensures { λ r. ⌜ found r ≡ answer (lookingUp name number) (now (s .entry)) ⌝ }
 {
     match open(s) {
-        Opened::Refused(n) => Found::None(n),
+        Opened::Refused(n) => Found::Refused(n),
         Opened::At { place, count } => {
             let p = place as usize;
             let n = count as usize;
@@ -92,12 +96,7 @@ pub fn data_of(s: &[u8], name: u32, number: u32) -> &[u8]
     ensures { λ r. ⌜ shown r ≡ handedBack (shown (s .entry)) (mapAnswer dataSpan (answer (lookingUp name number) (now (s .entry)))) ⌝ }
 {
     match lookup(s, name, number) {
-        Found::None(_) => part(s, 0, 0),
-        Found::Data {
-            start,
-            size,
-            element_type: _,
-            count: _,
-        } => part(s, start, size),
+        Found::Refused(_) => part(s, 0, 0),
+        Found::Data(q) => part(s, q.start, q.size),
     }
 }

@@ -3,6 +3,7 @@ pub mod Steps
 pub mod Passed
 pub mod Reach
 pub mod Loop
+pub mod Fill
 pub mod Parts
 pub mod Product
 pub mod Signs

@@ -7,13 +7,8 @@ extern "C" {
     fn jt_abif_judge(bytes: *const u8, len: usize) -> Verdict;
     fn jt_abif_open(bytes: *const u8, len: usize) -> Opened;
     fn jt_abif_lookup(bytes: *const u8, len: usize, name: u32, number: i32) -> Found;
-    fn jt_abif_element(
-        bytes: *const u8,
-        len: usize,
-        name: u32,
-        number: i32,
-        index: u64,
-    ) -> Element;
+    fn jt_abif_element(bytes: *const u8, len: usize, name: u32, number: i32, index: u64)
+        -> Element;
     fn jt_abif_text(bytes: *const u8, len: usize, name: u32, number: i32) -> Part;
     fn jt_abif_whole_numbers(
         bytes: *const u8,

@@ -24,9 +24,8 @@ enum-told c = search needs
 part-requires : tie.Need-part-requires
 part-requires c κs = search needs
 
--- src/lookup.rt:97:13
-enum-known-start : tie.Need-enum-known-start
-enum-known-start c = search needs
+enum-known-q : tie.Need-enum-known-q
+enum-known-q c = search needs
 
 -- src/lookup.rt:101:14
 part-requires-2 : tie.Need-part-requires-2
@@ -42,8 +41,8 @@ returns-2 : tie.Need-returns-2
 returns-2 c =     let o = c .before .before .before .before in
     let g = o .before .before .args in
     let a = c .before .before in
-    let w = found-fits (g .s .now) (g .name) (g .number) _ (sym (o .lookup .ensures) ∙ ap found (a .start .given .1)) in
-    c .part2 .ensures ∙ part-there (shown (g .s)) _ _ w ∙ rw (← o .lookup .ensures, a .start .given .1)
+    let w = found-fits (g .s .now) (g .name) (g .number) _ (sym (o .lookup .ensures) ∙ ap found (a .q .given .1)) in
+    c .part2 .ensures ∙ part-there (shown (g .s)) _ _ (w .0) ∙ rw (← o .lookup .ensures, a .q .given .1)
 
 pub data-of-spec : {M : Type 1} → statement M
 data-of-spec =
@@ -52,7 +51,7 @@ data-of-spec =
     lookup-requires
     enum-told
     part-requires
-    enum-known-start
+    enum-known-q
     part-requires-2
     returns
     returns-2)

@@ -1,0 +1,85 @@
+-- Elements, from the answers of their parts.
+-- Assumes nothing.
+use Prim.Native.Nat.{ℕ, _+_, _-_, _*_, _≤_}
+use mathlib.Core.Path.{_≡_}
+use mathlib.Core.List.{List}
+use mathlib.Core.Bool.{true, false, not}
+use lib.IntN.{pos}
+use lib.ListN.{length, take}
+use lib.Dec.{eqb}
+use lib.Ieee.{binary32, binary64, ofBits}
+use borrow.Author.Tests.{ne-eqb}
+use Rattle.reading.specs.Number.{be, signed}
+use Rattle.reading.specs.Check.{ok, refused, answer, holds}
+use Rattle.reading.proofs.Steps.{answer-bind, answer-must, answer-need-present}
+use Rattle.abif.specs.declared.entry.ElementType.the-variants.{Listed}
+use Rattle.abif.specs.declared.lookup.ItemData.{ItemData}
+use Rattle.abif.specs.Entry.{typeOf}
+use Rattle.abif.specs.Element.{single, double, thumb, bool, whole, wholeAt, dateAt, timeAt, valueAt, listed, isElement, elementOf}
+
+-- the whole number of each type
+module _ (l : List ℕ) (p k : ℕ) where
+  pub whole-char : k ≡ 2 → signed 1 (be 1 l p) ≡ wholeAt k l p
+  unfolding wholeAt
+  whole-char e = rw e
+
+  pub whole-word : k ≡ 3 → pos (be 2 l p) ≡ wholeAt k l p
+  unfolding wholeAt
+  whole-word e = rw e
+
+  pub whole-short : k ≡ 4 → signed 2 (be 2 l p) ≡ wholeAt k l p
+  unfolding wholeAt
+  whole-short e = rw e
+
+  pub whole-long : k ≡ 5 → signed 4 (be 4 l p) ≡ wholeAt k l p
+  unfolding wholeAt
+  whole-long e = rw e
+
+  pub whole-byte : (k ≡ 2 → ⊥) → (k ≡ 3 → ⊥) → (k ≡ 4 → ⊥) → (k ≡ 5 → ⊥) → pos (be 1 l p) ≡ wholeAt k l p
+  unfolding wholeAt
+  whole-byte a b c d = rw (ne-eqb k 2 a, ne-eqb k 3 b, ne-eqb k 4 c, ne-eqb k 5 d)
+
+-- the element of each type
+module _ (l : List ℕ) (p k : ℕ) (s : List ℕ) where
+  pub value-single : k ≡ 7 → ok (single (ofBits binary32 (be 4 l p)) (be 4 l p)) ≡ answer (valueAt k l p) s
+  unfolding valueAt answer
+  value-single e = rw e
+
+  pub value-double : k ≡ 8 → ok (double (ofBits binary64 (be 8 l p)) (be 8 l p)) ≡ answer (valueAt k l p) s
+  unfolding valueAt answer
+  value-double e = rw e
+
+  pub value-date : k ≡ 10 → answer (dateAt l p) s ≡ answer (valueAt k l p) s
+  unfolding valueAt
+  value-date e = rw e
+
+  pub value-time : k ≡ 11 → answer (timeAt l p) s ≡ answer (valueAt k l p) s
+  unfolding valueAt
+  value-time e = rw e
+
+  pub value-thumb : k ≡ 12 → ok (thumb (signed 4 (be 4 l p)) (signed 4 (be 4 l (p + 4))) (be 1 l (p + 8)) (be 1 l (p + 9))) ≡ answer (valueAt k l p) s
+  unfolding valueAt answer
+  value-thumb e = rw e
+
+  pub value-bool : k ≡ 13 → ok (bool (not (eqb (be 1 l p) 0))) ≡ answer (valueAt k l p) s
+  unfolding valueAt answer
+  value-bool e = rw e
+
+  pub value-whole : (k ≡ 7 → ⊥) → (k ≡ 8 → ⊥) → (k ≡ 10 → ⊥) → (k ≡ 11 → ⊥) → (k ≡ 12 → ⊥) → (k ≡ 13 → ⊥) → ok (whole (wholeAt k l p)) ≡ answer (valueAt k l p) s
+  unfolding valueAt answer
+  value-whole a b c d e f = rw (ne-eqb k 7 a, ne-eqb k 8 b, ne-eqb k 10 c, ne-eqb k 11 d, ne-eqb k 12 e, ne-eqb k 13 f)
+
+-- element i of the item q
+module _ (s : List ℕ) (q : ItemData) (i : ℕ) where
+  pub of-raw : listed (typeOf (q .«element_type»)) ≡ false → refused 10 0 ≡ answer (elementOf q i) s
+  unfolding elementOf holds
+  of-raw f = simp (answer-bind, answer-must, f)
+
+  module _ (w : ℕ) (t : typeOf (q .«element_type») ≡ Listed w) where
+    pub of-none : isElement i (q .count) ≡ false → refused 12 0 ≡ answer (elementOf q i) s
+    unfolding elementOf holds
+    of-none f = simp (answer-bind, answer-must, t, f)
+
+    pub of-value : isElement i (q .count) ≡ true → q .start + q .size ≤ length s → answer (valueAt (q .«element_type») (take (q .start + q .size) s) (q .start + w * (i - 1))) s ≡ answer (elementOf q i) s
+    unfolding elementOf holds
+    of-value f h = simp (answer-bind, answer-must, t, f, answer-need-present (q .start) (q .start + q .size) s h)

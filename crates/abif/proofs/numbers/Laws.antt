@@ -1,0 +1,46 @@
+-- The copied numbers, from the answers of their parts.
+-- Assumes nothing.
+use Prim.Native.Nat.{ℕ, zero, suc, _+_, _-_, _*_, _≤_}
+use mathlib.Core.Path.{_≡_, refl, sym, _∙_, ap}
+use mathlib.Core.List.{List, _++_}
+use mathlib.Core.Bool.{true, false}
+use lib.Dec.{leb}
+use lib.IntN.{ℤ}
+use lib.ListN.{length, take, drop}
+use Rattle.reading.specs.Check.{ok, refused, answer, mapAnswer, holds}
+use Rattle.reading.proofs.Steps.{answer-bind, answer-must, answer-done, answer-need-present}
+use Rattle.abif.specs.declared.lookup.ItemData.{ItemData}
+use Rattle.abif.specs.Entry.{typeOf}
+use Rattle.abif.specs.Element.{sizeOf, isElement, elementPlace}
+use Rattle.abif.specs.Numbers.{isWhole, wholesAt, left, numbersOf, filled}
+
+pub length-wholes : (k w : ℕ) (l : List ℕ) (p n : ℕ) → length (wholesAt k w l p n) ≡ n
+unfolding wholesAt
+length-wholes k w l p zero = refl
+length-wholes k w l p (suc n) = ap suc (length-wholes k w l (p + w) n)
+
+-- the numbers of the item q from number `first` on
+module _ (s : List ℕ) (q : ItemData) (first room : ℕ) where
+  pub of-other : isWhole (q .«element_type») ≡ false → answer (numbersOf q first room) s ≡ refused 10 0
+  unfolding numbersOf holds
+  of-other f = simp (answer-bind, answer-must, f)
+
+  module _ (t : isWhole (q .«element_type») ≡ true) where
+    pub of-none : isElement first (q .count) ≡ false → answer (numbersOf q first room) s ≡ refused 12 0
+    unfolding numbersOf holds
+    of-none f = simp (answer-bind, answer-must, t, f)
+
+    module _ (f : isElement first (q .count) ≡ true) where
+      pub of-little : leb (left q first) room ≡ false → answer (numbersOf q first room) s ≡ refused 13 0
+      unfolding numbersOf holds
+      of-little g = simp (answer-bind, answer-must, t, f, g)
+
+      pub of-numbers : leb (left q first) room ≡ true → q .start + q .size ≤ length s → answer (numbersOf q first room) s ≡ ok (wholesAt (q .«element_type») (sizeOf (typeOf (q .«element_type»))) (take (q .start + q .size) s) (elementPlace q first) (left q first))
+      unfolding numbersOf holds
+      of-numbers g h = simp (answer-bind, answer-must, answer-done, t, f, g, answer-need-present (q .start) (q .start + q .size) s h)
+
+-- what is answered, and what the output then holds, where the numbers are copied
+pub of-copied : (s : List ℕ) (q : ItemData) (first : ℕ) (out out′ : List ℤ) (w : ℕ) → w ≡ sizeOf (typeOf (q .«element_type»)) → isWhole (q .«element_type») ≡ true → isElement first (q .count) ≡ true → leb (left q first) (length out) ≡ true → q .start + q .size ≤ length s → out′ ≡ wholesAt (q .«element_type») w (take (q .start + q .size) s) (q .start + w * (first - 1)) (left q first) ++ drop (left q first) out → (ok (left q first) ≡ mapAnswer length (answer (numbersOf q first (length out)) s)) × (out′ ≡ filled (answer (numbersOf q first (length out)) s) out)
+of-copied s q first out out′ w e t f g h c =
+    let r = of-numbers s q first (length out) t f g h in
+    (rw r (ap ok (sym (length-wholes _ _ _ _ _))), c ∙ rw (r, e, length-wholes))

@@ -1,0 +1,42 @@
+use mathlib.Core.Path.{_∙_, sym, ap}
+use Rattle.abif.specs.Lookup.{found}
+use Rattle.abif.proofs.lookup.Laws.{found-fits}
+use Rattle.abif.proofs.text.Laws.{reading-refused, reading-found}
+use borrow.Author.Needs.{needs}
+use Rattle.abif.proofs.text.read_text.Statement.{statement}
+use Rattle.abif.proofs.text.read_text.Tie as tie
+
+lookup-requires : tie.Need-lookup-requires
+lookup-requires c κs = search needs
+
+enum-known-n : tie.Need-enum-known-n
+enum-known-n c = search needs
+
+enum-known-q : tie.Need-enum-known-q
+enum-known-q c = search needs
+
+text-of-requires : tie.Need-text-of-requires
+text-of-requires c κs =
+    let a = c .before in
+    let o = a .before .before in
+    let g = o .before .before .args in
+    found-fits (g .s .now) (g .name) (g .number) _ (sym (o .lookup .ensures) ∙ ap found (a .q .given .1)) .0
+
+returns : tie.Need-returns
+returns c =
+    let a = c .before in
+    let o = a .before .before in
+    let g = o .before .before .args in
+    reading-refused (g .s .now) (g .name) (g .number) _ (sym (o .lookup .ensures) ∙ ap found (a .n .given .1))
+
+returns-2 : tie.Need-returns-2
+returns-2 c =
+    let a = c .before .before in
+    let o = a .before .before in
+    let g = o .before .before .args in
+    c .text-of .ensures ∙ reading-found (g .s .now) (g .name) (g .number) _ (sym (o .lookup .ensures) ∙ ap found (a .q .given .1))
+
+pub read-text-spec : {M : Type 1} → statement M
+read-text-spec =
+    tie.close
+    (tie.spec lookup-requires enum-known-n enum-known-q text-of-requires returns returns-2)

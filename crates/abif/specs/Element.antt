@@ -1,0 +1,116 @@
+-- ABIF: the elements of an item.
+-- Assumes nothing.
+use Prim.Native.Nat.{ℕ, _+_, _-_, _*_}
+use mathlib.Core.List.{List}
+use mathlib.Core.Bool.{Bool, true, false, not}
+use lib.Dec.{leb, eqb}
+use lib.IntN.{ℤ, pos}
+use lib.Ieee.{Float, binary32, binary64, ofBits}
+use Rattle.reading.specs.Choice.{pick}
+use Rattle.reading.specs.Number.{be, signed}
+use Rattle.reading.specs.declared.check.Field.{Field}
+use Rattle.reading.specs.declared.check.Rule.the-variants.{AtMost, Between}
+use Rattle.reading.specs.Check.{Check, Answer, ok, refused, unsignedField, done, must, need, provided, _>>=_, _>>_}
+use Rattle.abif.specs.declared.entry.ElementType.{ElementType}
+use Rattle.abif.specs.declared.entry.ElementType.the-variants.{Listed, Raw, Unknown}
+use Rattle.abif.specs.declared.element.Element.{Element}
+use Rattle.abif.specs.declared.element.Element.the-variants.{Whole, Single, Double, Date, Time, Bool as Flag, Thumb, Refused}
+use Rattle.abif.specs.Entry.{typeOf}
+use Rattle.abif.specs.declared.lookup.ItemData.{ItemData}
+use Rattle.abif.specs.Lookup.{lookingUp}
+
+-- what an element is; a float with its bits, which alone tell one NaN from another
+pub data Value : Type 0 where
+  whole : ℤ → Value
+  single : Float → ℕ → Value
+  double : Float → ℕ → Value
+  date : ℤ → ℕ → ℕ → Value
+  time : ℕ → ℕ → ℕ → ℕ → Value
+  bool : Bool → Value
+  thumb : ℤ → ℤ → ℕ → ℕ → Value
+
+-- the whole number of type k at place p: char, word, short, long; byte, pString and cString elements are unsigned bytes
+unfoldable pub wholeAt : ℕ → List ℕ → ℕ → ℤ
+wholeAt k l p =
+    pick (eqb k 2) (signed 1 (be 1 l p))
+    (pick (eqb k 3) (pos (be 2 l p))
+    (pick (eqb k 4) (signed 2 (be 2 l p))
+    (pick (eqb k 5) (signed 4 (be 4 l p))
+    (pos (be 1 l p)))))
+
+-- the byte at place p
+abbrev pub byteField : List ℕ → ℕ → Field
+byteField l p = unsignedField 1 p (be 1 l p)
+
+-- a date: year, month 1 to 12, day 1 to 31
+unfoldable pub dateAt : List ℕ → ℕ → Check Value
+dateAt l p = do
+  must (byteField l (p + 2)) (Between 1 12) 11
+  must (byteField l (p + 3)) (Between 1 31) 11
+  done (date (signed 2 (be 2 l p)) (be 1 l (p + 2)) (be 1 l (p + 3)))
+
+-- a time: hour 0 to 23, minute and second 0 to 59, hundredth 0 to 99
+unfoldable pub timeAt : List ℕ → ℕ → Check Value
+timeAt l p = do
+  must (byteField l p) (AtMost 23) 11
+  must (byteField l (p + 1)) (AtMost 59) 11
+  must (byteField l (p + 2)) (AtMost 59) 11
+  must (byteField l (p + 3)) (AtMost 99) 11
+  done (time (be 1 l p) (be 1 l (p + 1)) (be 1 l (p + 2)) (be 1 l (p + 3)))
+
+-- the element of type k at place p
+unfoldable pub valueAt : ℕ → List ℕ → ℕ → Check Value
+valueAt k l p =
+    pick (eqb k 7) (done (single (ofBits binary32 (be 4 l p)) (be 4 l p)))
+    (pick (eqb k 8) (done (double (ofBits binary64 (be 8 l p)) (be 8 l p)))
+    (pick (eqb k 10) (dateAt l p)
+    (pick (eqb k 11) (timeAt l p)
+    (pick (eqb k 12) (done (thumb (signed 4 (be 4 l p)) (signed 4 (be 4 l (p + 4))) (be 1 l (p + 8)) (be 1 l (p + 9))))
+    (pick (eqb k 13) (done (bool (not (eqb (be 1 l p) 0))))
+    (done (whole (wholeAt k l p))))))))
+
+-- the element size of a listed type; raw bytes have no elements
+abbrev pub listed : ElementType → Bool
+listed (Listed w) = true
+listed Raw = false
+listed Unknown = false
+
+abbrev pub sizeOf : ElementType → ℕ
+sizeOf (Listed w) = w
+sizeOf Raw = 0
+sizeOf Unknown = 0
+
+-- element i of an item; elements count from one
+abbrev pub isElement : ℕ → ℕ → Bool
+isElement i count = pick (leb 1 i) (leb i count) false
+
+abbrev pub elementPlace : ItemData → ℕ → ℕ
+elementPlace q i = q .start + sizeOf (typeOf (q .«element_type»)) * (i - 1)
+
+-- an item's bytes, which lookup has shown to be there
+abbrev pub itemBytes : ItemData → Check (List ℕ)
+itemBytes q = need (q .start) (q .start + q .size)
+
+-- raw types 10, no such element 12, then its contents
+unfoldable pub elementOf : ItemData → ℕ → Check Value
+elementOf q i = do
+  provided (listed (typeOf (q .«element_type»))) 10
+  provided (isElement i (q .count)) 12
+  l ← itemBytes q
+  valueAt (q .«element_type») l (elementPlace q i)
+
+unfoldable pub elementReading : ℕ → ℕ → ℕ → Check Value
+elementReading a b i = do
+  q ← lookingUp a b
+  elementOf q i
+
+-- the paper's answer that each case stands for
+abbrev pub element : Element → Answer Value
+element (Whole z) = ok (whole z)
+element (Single f n) = ok (single f n)
+element (Double f n) = ok (double f n)
+element (Date y m d) = ok (date y m d)
+element (Time h m s c) = ok (time h m s c)
+element (Flag b) = ok (bool b)
+element (Thumb d u c n) = ok (thumb d u c n)
+element (Refused n) = refused n 0

@@ -1,0 +1,37 @@
+-- ABIF: the raw entries of the directory.
+-- Assumes nothing.
+use Prim.Native.Nat.{ℕ, _+_, _-_, _*_}
+use mathlib.Core.List.{List}
+use Rattle.reading.specs.Number.{be, signed}
+use Rattle.reading.specs.Check.{Check, Answer, ok, refused, done, provided, _>>=_, _>>_}
+use Rattle.abif.specs.declared.listing.RawEntry.{RawEntry}
+use Rattle.abif.specs.declared.listing.Listed.{Listed}
+use Rattle.abif.specs.declared.listing.Listed.the-variants.{At, Refused}
+use Rattle.abif.specs.Directory.{directory}
+use Rattle.abif.specs.Element.{isElement}
+
+-- the fields of the entry at place p, signed where the format is
+unfoldable pub rawEntry : List ℕ → ℕ → RawEntry
+rawEntry h p =
+    record {
+      name = be 4 h p;
+      number = signed 4 (be 4 h (p + 4));
+      «element_type» = signed 2 (be 2 h (p + 8));
+      «element_size» = signed 2 (be 2 h (p + 10));
+      «element_count» = signed 4 (be 4 h (p + 12));
+      «data_size» = signed 4 (be 4 h (p + 16));
+      «data_offset» = signed 4 (be 4 h (p + 20));
+      «data_handle» = signed 4 (be 4 h (p + 24));
+    }
+
+-- entry i of the directory, from one: the header and directory checks, then no such entry 7
+unfoldable pub entryReading : ℕ → Check RawEntry
+entryReading i = do
+  d ← directory
+  provided (isElement i (d .count)) 7
+  done (rawEntry (d .upTo) (d .place + 28 * (i - 1)))
+
+-- the paper's answer that each case stands for
+abbrev pub listed : Listed → Answer RawEntry
+listed (At d) = ok d
+listed (Refused n) = refused n 0

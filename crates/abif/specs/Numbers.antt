@@ -1,0 +1,52 @@
+-- ABIF: the elements of a whole-number item, from number `first` on.
+-- Assumes nothing.
+use Prim.Native.Nat.{ℕ, zero, suc, _+_, _-_}
+use mathlib.Core.List.{List, [], _∷_, _++_}
+use mathlib.Core.Bool.{Bool}
+use lib.Dec.{leb}
+use lib.IntN.{ℤ}
+use lib.ListN.{length, drop}
+use Rattle.reading.specs.Check.{Check, Answer, ok, refused, done, provided, _>>=_, _>>_}
+use Rattle.abif.specs.declared.numbers.Copied.{Copied}
+use Rattle.abif.specs.declared.numbers.Copied.the-variants.{Count, Refused}
+use Rattle.abif.specs.Entry.{among, typeOf}
+use Rattle.abif.specs.declared.lookup.ItemData.{ItemData}
+use Rattle.abif.specs.Lookup.{lookingUp}
+use Rattle.abif.specs.Element.{wholeAt, sizeOf, isElement, elementPlace, itemBytes}
+
+-- the types whose elements are whole numbers: byte, char, word, short, long, pString, cString
+unfoldable pub isWhole : ℕ → Bool
+isWhole k = among k (1 ∷ 2 ∷ 3 ∷ 4 ∷ 5 ∷ 18 ∷ 19 ∷ [])
+
+-- n whole numbers of type k, w bytes apart, from place p on
+unfoldable pub wholesAt : ℕ → ℕ → List ℕ → ℕ → ℕ → List ℤ
+wholesAt k w l p zero = []
+wholesAt k w l p (suc n) = wholeAt k l p ∷ wholesAt k w l (p + w) n
+
+-- the number of elements from number `first` on
+abbrev pub left : ItemData → ℕ → ℕ
+left q first = q .count - (first - 1)
+
+-- other types 10, no such element 12, too little room 13
+unfoldable pub numbersOf : ItemData → ℕ → ℕ → Check (List ℤ)
+numbersOf q first room = do
+  provided (isWhole (q .«element_type»)) 10
+  provided (isElement first (q .count)) 12
+  provided (leb (left q first) room) 13
+  l ← itemBytes q
+  done (wholesAt (q .«element_type») (sizeOf (typeOf (q .«element_type»))) l (elementPlace q first) (left q first))
+
+unfoldable pub numbersReading : ℕ → ℕ → ℕ → ℕ → Check (List ℤ)
+numbersReading a b first room = do
+  q ← lookingUp a b
+  numbersOf q first room
+
+-- the paper's answer that each case stands for
+abbrev pub copied : Copied → Answer ℕ
+copied (Count n) = ok n
+copied (Refused n) = refused n 0
+
+-- what the lent output then holds: the numbers at its front; refused, what it held
+abbrev pub filled : Answer (List ℤ) → List ℤ → List ℤ
+filled (ok ns) out = ns ++ drop (length ns) out
+filled (refused n e) out = out

@@ -1,0 +1,65 @@
+// The raw entries of the directory.
+use crate::directory::Opened;
+use crate::directory::open;
+use reading::number::be16;
+use reading::number::be32;
+use reading::number::signed16;
+use reading::number::signed32;
+ghost use mathlib.Core.Path.{_≡_};
+ghost use Prim.Native.Nat.{_+_, _<_};
+ghost use Rattle.reading.specs.Check.{answer};
+ghost use Rattle.abif.specs.Listing.{rawEntry, entryReading, listed};
+
+// A directory entry as it stands in the file, signed where the format is.
+pub struct RawEntry {
+    pub name: u32,
+    pub number: i32,
+    pub element_type: i16,
+    pub element_size: i16,
+    pub element_count: i32,
+    pub data_size: i32,
+    pub data_offset: i32,
+    pub data_handle: i32,
+}
+
+// An entry of the directory, or the refusal.
+pub enum Listed {
+    At(RawEntry),
+    Refused(u8),
+}
+
+fn raw_entry(h: &[u8], p: usize) -> RawEntry
+    requires { ⌜ p < 0x8000000000000000 ⌝ }
+    ensures { λ r. ⌜ r ≡ rawEntry (now (h .entry)) p ⌝ }
+{
+    RawEntry {
+        name: be32(h, p),
+        number: signed32(be32(h, p + 4)),
+        element_type: signed16(be16(h, p + 8)),
+        element_size: signed16(be16(h, p + 10)),
+        element_count: signed32(be32(h, p + 12)),
+        data_size: signed32(be32(h, p + 16)),
+        data_offset: signed32(be32(h, p + 20)),
+        data_handle: signed32(be32(h, p + 24)),
+    }
+}
+
+// Entry number `index`, from one, of the directory.
+pub fn entry(s: &[u8], index: u64) -> Listed
+    ensures { λ r. ⌜ listed r ≡ answer (entryReading index) (now (s .entry)) ⌝ }
+{
+    match open(s) {
+        Opened::Refused(n) => Listed::Refused(n),
+        Opened::At { place, count } => {
+            if index < 1 {
+                return Listed::Refused(7);
+            }
+            if (count as u64) < index {
+                return Listed::Refused(7);
+            }
+            let end = place as usize + 28 * count as usize;
+            let p = place as usize + 28 * (index - 1) as usize;
+            Listed::At(raw_entry(&s[..end], p))
+        }
+    }
+}

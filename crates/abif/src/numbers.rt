@@ -1,0 +1,85 @@
+// The elements of a whole-number item, many at once.
+use crate::element::whole_at;
+use crate::element::width_of;
+use crate::lookup::Found;
+use crate::lookup::ItemData;
+use crate::lookup::lookup;
+ghost use mathlib.Core.Path.{_≡_};
+ghost use mathlib.Core.List.{_++_};
+ghost use Prim.Native.Nat.{_+_, _≤_, _<_};
+ghost use lib.ListN.{length, drop};
+ghost use Rattle.reading.specs.Check.{answer, mapAnswer};
+ghost use Rattle.abif.specs.Numbers.{isWhole, wholesAt, numbersOf, numbersReading, copied, filled};
+
+// How many numbers were copied, or the refusal.
+pub enum Copied {
+    Count(u64),
+    Refused(u8),
+}
+
+fn is_whole(code: u16) -> bool
+    ensures { λ r. ⌜ r ≡ isWhole code ⌝ }
+{
+    match code {
+        1 => true,
+        2 => true,
+        3 => true,
+        4 => true,
+        5 => true,
+        18 => true,
+        19 => true,
+        _ => false,
+    }
+}
+
+// The n numbers that stand w bytes apart from place p on, at the output's front.
+fn copy(l: &[u8], code: u16, w: usize, p: usize, n: usize, out: &mut [i64])
+    requires { ⌜ (w ≤ 0xffff) × (p < 0x2000000000000) × (n ≤ 0xffffffff) × (n ≤ length (now out)) ⌝ }
+    ensures { λ _. ⌜ now (out .exit) ≡ wholesAt code w (now (l .entry)) p n ++ drop n (now (out .entry)) ⌝ }
+{
+    let mut place = p;
+    let mut i = 0;
+    while i < n {
+        out[i] = whole_at(l, code, place);
+        place += w;
+        i += 1;
+    }
+}
+
+fn numbers_of(s: &[u8], q: ItemData, first: u64, out: &mut [i64]) -> Copied
+    requires { ⌜ (q .start + q .size ≤ length (now s)) × (q .start < 0x100000000) ⌝ }
+    ensures { λ r. ⌜ copied r ≡ mapAnswer length (answer (numbersOf q first (length (now (out .entry)))) (now (s .entry))) ⌝ }
+    ensures { λ _. ⌜ now (out .exit) ≡ filled (answer (numbersOf q first (length (now (out .entry)))) (now (s .entry))) (now (out .entry)) ⌝ }
+{
+    let whole = is_whole(q.element_type);
+    if whole {
+        if first < 1 {
+            return Copied::Refused(12);
+        }
+        if (q.count as u64) < first {
+            return Copied::Refused(12);
+        }
+        let n = (q.count as u64 - (first - 1)) as usize;
+        if out.len() < n {
+            return Copied::Refused(13);
+        }
+        let w = width_of(q.element_type) as usize;
+        let p = q.start + w * (first - 1) as usize;
+        let end = q.start + q.size;
+        copy(&s[..end], q.element_type, w, p, n, out);
+        Copied::Count(n as u64)
+    } else {
+        Copied::Refused(10)
+    }
+}
+
+// The elements from number `first` on, as many as are left, at the output's front.
+pub fn whole_numbers(s: &[u8], name: u32, number: u32, first: u64, out: &mut [i64]) -> Copied
+    ensures { λ r. ⌜ copied r ≡ mapAnswer length (answer (numbersReading name number first (length (now (out .entry)))) (now (s .entry))) ⌝ }
+    ensures { λ _. ⌜ now (out .exit) ≡ filled (answer (numbersReading name number first (length (now (out .entry)))) (now (s .entry))) (now (out .entry)) ⌝ }
+{
+    match lookup(s, name, number) {
+        Found::Refused(n) => Copied::Refused(n),
+        Found::Data(q) => numbers_of(s, q, first, out),
+    }
+}

@@ -1,0 +1,130 @@
+//! The built program's standard output.
+
+use crate::damage::{random_byte_changes, random_changes};
+use crate::generate::{long_directory, random_file};
+use crate::program;
+use crate::random::Random;
+use crate::report::Group;
+use crate::samples;
+use std::io::{self, Write};
+use std::path::{Path, PathBuf};
+use std::process::{Command, Stdio};
+use std::time::Duration;
+use std::{env, fs, thread};
+
+const LONGEST_INPUT: usize = 65_536;
+const GENERATED: usize = 60;
+
+pub fn lines(group: &mut Group) {
+    let program = program_path();
+    if !program.is_file() {
+        let message = || format!("no program at {}", program.display());
+        return group.check(false, &[], message);
+    }
+    stored_samples(group, &program);
+    for input in generated_inputs() {
+        compare_lines(group, &program, &input, input.len());
+    }
+    for input in [samples::one_inline_item(), at_the_limit()[1].clone()] {
+        for first in [0, 3, 4, 100, input.len() / 2] {
+            compare_lines(group, &program, &input, first);
+        }
+    }
+}
+
+fn program_path() -> PathBuf {
+    match env::var_os("INSPECT") {
+        Some(path) => PathBuf::from(path),
+        None => Path::new(env!("CARGO_MANIFEST_DIR")).join("../../target/bin/inspect"),
+    }
+}
+
+// Compares with the stored lines too, and sees that the stored files are those made here.
+fn stored_samples(group: &mut Group, program: &Path) {
+    let folder = Path::new(env!("CARGO_MANIFEST_DIR")).join("../../samples");
+    for (name, bytes) in samples::all() {
+        let stored = fs::read(folder.join(name)).ok();
+        group.check(stored.as_deref() == Some(&bytes), &bytes, || {
+            format!("the stored sample {name} is missing or is another file")
+        });
+        let lines = fs::read(folder.join(format!("{name}.lines"))).ok();
+        let printed = run(program, &bytes, bytes.len()).ok();
+        group.check(printed.is_some() && printed == lines, &bytes, || {
+            format!("{name}: printed {printed:?}, stored {lines:?}")
+        });
+        compare_lines(group, program, &bytes, bytes.len());
+    }
+}
+
+fn generated_inputs() -> Vec<Vec<u8>> {
+    let mut random = Random::new(41);
+    let mut inputs = at_the_limit();
+    for _ in 0..GENERATED {
+        inputs.push(random_file(&mut random, 12).bytes());
+        inputs.push(random_changes(&mut random).bytes());
+        inputs.push(random_byte_changes(&mut random));
+    }
+    inputs.push(long_directory(&mut random, 999).bytes());
+    for mark in ["", "A", "AB", "ABI", "ABIG", "abif", "FIBA", "\0ABIF", " "] {
+        inputs.push(mark.into());
+        inputs.push(format!("{mark}{}", "x".repeat(200)).into());
+    }
+    inputs
+        .into_iter()
+        .filter(|input| !has_a_later_mark(input))
+        .collect()
+}
+
+// Files of these kinds get lines of their own, which this group does not compare.
+fn has_a_later_mark(input: &[u8]) -> bool {
+    input.starts_with(b".sff") || input.starts_with(b"gtc")
+}
+
+// A whole file, an unknown one and one of zeros, as long as the program takes and one byte less or more.
+fn at_the_limit() -> Vec<Vec<u8>> {
+    let mut inputs = Vec::new();
+    for length in [LONGEST_INPUT - 1, LONGEST_INPUT, LONGEST_INPUT + 1, 200_000] {
+        let mut whole = samples::one_item_at_an_offset();
+        whole.resize(length, b'x');
+        inputs.push(whole);
+        inputs.push(vec![b'x'; length]);
+        inputs.push(vec![0; length]);
+    }
+    inputs
+}
+
+fn compare_lines(group: &mut Group, program: &Path, input: &[u8], first: usize) {
+    group.input();
+    let expected = program::lines(input);
+    let printed = run(program, input, first);
+    let same = matches!(&printed, Ok(printed) if *printed == expected.as_bytes());
+    group.check(same, input, || match printed {
+        Ok(printed) => format!("printed {:?}, expected {expected:?}", text(&printed)),
+        Err(error) => format!("the program did not run: {error}"),
+    });
+}
+
+fn text(printed: &[u8]) -> String {
+    String::from_utf8_lossy(printed).into_owned()
+}
+
+// Feeds `first` bytes and, after a pause, the rest.
+fn run(program: &Path, input: &[u8], first: usize) -> io::Result<Vec<u8>> {
+    let mut child = Command::new(program)
+        .stdin(Stdio::piped())
+        .stdout(Stdio::piped())
+        .spawn()?;
+    let mut pipe = child.stdin.take().expect("the standard input is piped");
+    let output = thread::scope(|scope| {
+        scope.spawn(move || {
+            // A program may stop reading what is too long, so a closed pipe is no fault.
+            let _ = pipe.write_all(&input[..first]);
+            if first < input.len() {
+                thread::sleep(Duration::from_millis(5));
+                let _ = pipe.write_all(&input[first..]);
+            }
+        });
+        child.wait_with_output()
+    })?;
+    Ok(output.stdout)
+}
