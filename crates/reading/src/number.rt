@@ -2,7 +2,7 @@
 ghost use mathlib.Core.Path.{_≡_};
 ghost use Prim.Native.Nat.{_+_, _≤_, _<_};
 ghost use lib.ListN.{length, getD};
-ghost use Rattle.reading.specs.Number.{be, le, signed};
+ghost use Rattle.reading.specs.Number.{be, le, signed, bits};
 
 fn wide16(b: u8) -> u16
     ensures { λ r. ⌜ (r ≡ b) × (r < 256) ⌝ }
@@ -218,4 +218,15 @@ pub fn signed32(x: u32) -> i32
     }
     let y = 0xffff_ffff - x;
     -1 - y as i32
+}
+
+// The 32 bits of the signed number x.
+pub fn bits32(x: i32) -> u32
+    ensures { λ r. ⌜ r ≡ bits 4 x ⌝ }
+{
+    if 0 <= x {
+        return x as u32;
+    }
+    let y = -1 - x;
+    0xffff_ffff - y as u32
 }
