@@ -1,11 +1,10 @@
 -- ABIF: the elements of a whole-number item, from number `first` on.
 -- Assumes nothing.
 use Prim.Native.Nat.{ℕ, zero, suc, _+_, _-_}
-use mathlib.Core.List.{List, [], _∷_, _++_}
+use mathlib.Core.List.{List, [], _∷_}
 use mathlib.Core.Bool.{Bool}
 use lib.Dec.{leb}
 use lib.IntN.{ℤ}
-use lib.ListN.{length, drop}
 use Rattle.reading.specs.Check.{Check, Answer, ok, refused, done, provided, _>>=_, _>>_}
 use Rattle.abif.specs.declared.numbers.Copied.{Copied}
 use Rattle.abif.specs.declared.numbers.Copied.the-variants.{Count, Refused}
@@ -45,8 +44,3 @@ numbersReading a b first room = do
 abbrev pub copied : Copied → Answer ℕ
 copied (Count n) = ok n
 copied (Refused n) = refused n 0
-
--- what the lent output then holds: the numbers at its front; refused, what it held
-abbrev pub filled : Answer (List ℤ) → List ℤ → List ℤ
-filled (ok ns) out = ns ++ drop (length ns) out
-filled (refused n e) out = out

@@ -9,7 +9,8 @@ ghost use mathlib.Core.List.{_++_};
 ghost use Prim.Native.Nat.{_+_, _≤_, _<_};
 ghost use lib.ListN.{length, drop};
 ghost use Rattle.reading.specs.Check.{answer, mapAnswer};
-ghost use Rattle.abif.specs.Numbers.{isWhole, wholesAt, numbersOf, numbersReading, copied, filled};
+ghost use Rattle.reading.specs.Lent.{filled};
+ghost use Rattle.abif.specs.Numbers.{isWhole, wholesAt, numbersOf, numbersReading, copied};
 
 // How many numbers were copied, or the refusal.
 pub enum Copied {

@@ -4,3 +4,4 @@ pub mod Check
 pub mod Explain
 pub mod Demand
 pub mod Part
+pub mod Lent

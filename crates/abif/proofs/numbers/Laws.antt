@@ -8,11 +8,12 @@ use lib.Dec.{leb}
 use lib.IntN.{ℤ}
 use lib.ListN.{length, take, drop}
 use Rattle.reading.specs.Check.{ok, refused, answer, mapAnswer, holds}
+use Rattle.reading.specs.Lent.{filled}
 use Rattle.reading.proofs.Steps.{answer-bind, answer-must, answer-done, answer-need-present}
 use Rattle.abif.specs.declared.lookup.ItemData.{ItemData}
 use Rattle.abif.specs.Entry.{typeOf}
 use Rattle.abif.specs.Element.{sizeOf, isElement, elementPlace}
-use Rattle.abif.specs.Numbers.{isWhole, wholesAt, left, numbersOf, filled}
+use Rattle.abif.specs.Numbers.{isWhole, wholesAt, left, numbersOf}
 
 pub length-wholes : (k w : ℕ) (l : List ℕ) (p n : ℕ) → length (wholesAt k w l p n) ≡ n
 unfolding wholesAt
