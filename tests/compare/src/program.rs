@@ -1,4 +1,4 @@
-//! The lines that the program prints for its standard input.
+//! The lines that the program prints for its standard input, as far as it is an ABIF file or unknown.
 
 use crate::reader::{self, Entry};
 use std::fmt::Write;

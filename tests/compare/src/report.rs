@@ -5,7 +5,7 @@ use std::time::{Duration, Instant};
 use std::{env, fs, process};
 
 const SHOWN_MISMATCHES: u64 = 3;
-const MOST_BYTES_SHOWN: usize = 1024;
+const MOST_BYTES_SHOWN: usize = 512;
 
 pub struct Group {
     name: &'static str,

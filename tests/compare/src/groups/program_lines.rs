@@ -25,9 +25,16 @@ pub fn lines(group: &mut Group) {
     for input in generated_inputs() {
         compare_lines(group, &program, &input, input.len());
     }
-    for input in [samples::one_inline_item(), at_the_limit()[1].clone()] {
-        for first in [0, 3, 4, 100, input.len() / 2] {
-            compare_lines(group, &program, &input, first);
+    in_two_pieces(group, &program);
+}
+
+// A read of standard input may hand out less than the whole file.
+fn in_two_pieces(group: &mut Group, program: &Path) {
+    for length in [156, LONGEST_INPUT, LONGEST_INPUT + 1] {
+        let mut input = samples::one_inline_item();
+        input.resize(length, 0);
+        for first in [0, 3, 4, 100, length - 1] {
+            compare_lines(group, program, &input, first);
         }
     }
 }
@@ -70,14 +77,6 @@ fn generated_inputs() -> Vec<Vec<u8>> {
         inputs.push(format!("{mark}{}", "x".repeat(200)).into());
     }
     inputs
-        .into_iter()
-        .filter(|input| !has_a_later_mark(input))
-        .collect()
-}
-
-// Files of these kinds get lines of their own, which this group does not compare.
-fn has_a_later_mark(input: &[u8]) -> bool {
-    input.starts_with(b".sff") || input.starts_with(b"gtc")
 }
 
 // A whole file, an unknown one and one of zeros, as long as the program takes and one byte less or more.
@@ -126,5 +125,9 @@ fn run(program: &Path, input: &[u8], first: usize) -> io::Result<Vec<u8>> {
         });
         child.wait_with_output()
     })?;
-    Ok(output.stdout)
+    if output.status.success() {
+        Ok(output.stdout)
+    } else {
+        Err(io::Error::other(output.status.to_string()))
+    }
 }

@@ -111,25 +111,39 @@ pub fn floats(group: &mut Group) {
 
 pub fn texts(group: &mut Group) {
     let mut random = Random::new(12);
-    let lengths = (0..=12).chain([254, 255, 256, 257, 258, 511, 512, 513, 769]);
+    let lengths = (0..=12_usize).chain([254, 255, 256, 257, 258, 511, 512, 513, 769]);
     for length in lengths {
-        for first in [0, 1, 2] {
-            let mut pascal = vec![b'a'; length];
-            pascal
-                .iter_mut()
-                .take(1)
-                .for_each(|byte| *byte = (length + first).wrapping_sub(2) as u8);
-            let mut items = vec![Content::listed(18, pascal)];
-            items.push(Content::listed(19, closed_text(length, &[])));
-            items.push(Content::listed(19, closed_text(length, &[length / 2])));
-            items.push(Content::listed(19, closed_text(length + 1, &[length])));
-            items.push(Content::listed(19, closed_text(length + 2, &[0, length])));
-            items.push(Content::listed(19, closed_text(length + 2, &[length + 1])));
-            items.push(Content::listed(2, closed_text(length + 1, &[length])));
+        let right = length.wrapping_sub(1) as u8;
+        let mut items = Vec::new();
+        for first in [right, right.wrapping_add(1), right.wrapping_sub(1), 0] {
+            items.push(Content::listed(18, pascal_text(length, first)));
+        }
+        let last = length.saturating_sub(1);
+        let zeros: [&[usize]; 6] = [
+            &[],
+            &[last],
+            &[0, last],
+            &[length / 2, last],
+            &[last.saturating_sub(1), last],
+            &[last / 2],
+        ];
+        for places in zeros {
+            items.push(Content::listed(19, closed_text(length, places)));
+        }
+        items.push(Content::listed(2, closed_text(length, &[last])));
+        for item in items {
             let order = random.pick(&ORDERS);
-            compare_whole(group, &plain_file(&numbered(items), order));
+            compare_whole(group, &plain_file(&numbered(vec![item]), order));
         }
     }
+}
+
+fn pascal_text(length: usize, first: u8) -> Vec<u8> {
+    let mut data = vec![b'a'; length];
+    if let Some(byte) = data.first_mut() {
+        *byte = first;
+    }
+    data
 }
 
 // Letters with zeros at these places.
