@@ -7,8 +7,8 @@ use compare::{answers, library, reader};
 use std::hint::black_box;
 use std::time::{Duration, Instant};
 
-const ROUNDS: usize = 301;
-const BATCH_TIME: Duration = Duration::from_micros(300);
+const ROUNDS: usize = 1001;
+const BATCH_TIME: Duration = Duration::from_micros(500);
 const SHORTS: usize = 10_000;
 const TRACE: Tag = Tag::new(b"DATA", 9);
 

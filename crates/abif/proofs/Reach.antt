@@ -28,7 +28,7 @@ use Rattle.abif.specs.Element.{dateAt, timeAt, valueAt, elementOf, eleme
 use Rattle.abif.specs.Numbers.{numbersOf, numbersReading}
 use Rattle.abif.specs.Text.{pString, cString, textOf, textReading}
 use Rattle.abif.specs.Listing.{entryReading}
-use Rattle.abif.proofs.lookup.Laws.{found-fits}
+use Rattle.abif.proofs.lookup.Laws.{found-checked}
 
 header-none : (a b : ℕ) (d : Entry) (s : List ℕ) → reach (headerCheck a b d) s ≡ 0
 unfolding headerCheck
@@ -148,7 +148,7 @@ lookup-under a b s x w =
 -- the data that lookup finds lie within the extent
 found-under : (a b : ℕ) (s : List ℕ) (x : ℕ) → answer judging s ≡ ok x → (q : ItemData) → answer (lookingUp a b) s ≡ ok q → q .start + q .size ≤ x
 found-under a b s x w q e =
-    let f = found-fits (take x s) a b q (answer-same (lookingUp a b) x s (lookup-under a b s x w) ∙ e) in
+    let f = found-checked (take x s) a b q (answer-same (lookingUp a b) x s (lookup-under a b s x w) ∙ e) in
     let l : length (take x s) ≡ min x (length s) = length-take x s in
     omega arith
 

@@ -1,16 +1,19 @@
 -- ABIF: lookup of a tag.
 -- Assumes nothing.
-use Prim.Native.Nat.{ℕ, zero, suc, _+_, _-_, _*_}
+use Prim.Native.Nat.{ℕ, zero, suc, _+_, _-_, _*_, _≤_, _<_}
+use mathlib.Core.Path.{_≡_}
 use mathlib.Core.List.{List}
+use lib.ListN.{length}
 use lib.Dec.{leb, ltb, eqb}
 use Rattle.reading.specs.Choice.{pick}
 use Rattle.reading.specs.Check.{Check, Answer, ok, refused, done, provided, _>>=_, _>>_}
 use Rattle.reading.specs.Part.{Span}
 use Rattle.abif.specs.declared.entry.Entry.{Entry}
+use Rattle.abif.specs.declared.entry.ElementType.the-variants.{Listed}
 use Rattle.abif.specs.declared.lookup.ItemData.{ItemData}
 use Rattle.abif.specs.declared.lookup.Found.{Found}
 use Rattle.abif.specs.declared.lookup.Found.the-variants.{Data, Refused}
-use Rattle.abif.specs.Entry.{entryOf, hasTag, entryCheck}
+use Rattle.abif.specs.Entry.{entryOf, hasTag, typeOf, entryCheck}
 use Rattle.abif.specs.Directory.{directory}
 
 -- the first of the n entries from entry i on with the tag (a, b), or the number past the last one
@@ -41,6 +44,12 @@ lookingUp a b = do
 abbrev pub found : Found → Answer ItemData
 found (Data q) = ok q
 found (Refused n) = refused n 0
+
+-- what the checks have shown of the data that lookup finds in s
+pub record Checked (s : List ℕ) (q : ItemData) : Type 0 where
+  pub within : q .start + q .size ≤ length s
+  pub low : q .start < 0x100000000
+  pub sizes : (w : ℕ) → typeOf (q .«element_type») ≡ Listed w → q .size ≡ w * q .count
 
 -- where the part that lookup hands back stands
 abbrev pub dataSpan : ItemData → Span

@@ -19,6 +19,7 @@ ghost use Prim.Native.Nat.{ℕ, _+_, _≤_, _<_};
 ghost use lib.ListN.{length};
 ghost use Rattle.reading.specs.Check.{answer};
 ghost use Rattle.abif.specs.Entry.{typeOf};
+ghost use Rattle.abif.specs.Lookup.{Checked};
 ghost use Rattle.abif.specs.Element.{sizeOf, wholeAt, dateAt, timeAt, valueAt, elementOf, elementReading, element};
 
 // The element size of a type, 0 for one whose data are raw bytes.
@@ -58,15 +59,32 @@ pub enum Element {
     Refused(u8),
 }
 
-// The whole number of this type at place p.
+// The whole number of this type at place p. A part of a fixed length is read with no test of its length, so a loop over this is fast.
 pub(crate) fn whole_at(l: &[u8], code: u16, p: usize) -> i64
+    requires { ⌜ p + sizeOf (typeOf code) ≤ length (now l) ⌝ }
     ensures { λ r. ⌜ r ≡ wholeAt code (now (l .entry)) p ⌝ }
 {
     match code {
-        2 => signed8(byte(l, p)) as i64,
-        3 => be16(l, p) as i64,
-        4 => signed16(be16(l, p)) as i64,
-        5 => signed32(be32(l, p)) as i64,
+        1 => {
+            let end = p + 1;
+            byte(&l[p..end], 0) as i64
+        }
+        2 => {
+            let end = p + 1;
+            signed8(byte(&l[p..end], 0)) as i64
+        }
+        3 => {
+            let end = p + 2;
+            be16(&l[p..end], 0) as i64
+        }
+        4 => {
+            let end = p + 2;
+            signed16(be16(&l[p..end], 0)) as i64
+        }
+        5 => {
+            let end = p + 4;
+            signed32(be32(&l[p..end], 0)) as i64
+        }
         _ => byte(l, p) as i64,
     }
 }
@@ -122,7 +140,7 @@ fn time_at(l: &[u8], p: usize) -> Element
 }
 
 fn value_at(l: &[u8], code: u16, p: usize) -> Element
-    requires { ⌜ p < 0x8000000000000000 ⌝ }
+    requires { ⌜ (p < 0x8000000000000000) × (p + sizeOf (typeOf code) ≤ length (now l)) ⌝ }
     ensures { λ r. ⌜ ((s : List ℕ) → element r ≡ answer (valueAt code (now (l .entry)) p) s) ⌝ }
 {
     match code {
@@ -152,7 +170,7 @@ fn value_at(l: &[u8], code: u16, p: usize) -> Element
 }
 
 fn listed_element(s: &[u8], q: ItemData, w: u16, index: u64) -> Element
-    requires { ⌜ (q .start + q .size ≤ length (now s)) × (q .start < 0x100000000) × (typeOf (q .«element_type») ≡ ElementType.Listed w) ⌝ }
+    requires { ⌜ Checked (now s) q × (typeOf (q .«element_type») ≡ ElementType.Listed w) ⌝ }
     ensures { λ r. ⌜ element r ≡ answer (elementOf q index) (now (s .entry)) ⌝ }
 {
     if index < 1 {
@@ -167,7 +185,7 @@ fn listed_element(s: &[u8], q: ItemData, w: u16, index: u64) -> Element
 }
 
 fn element_of(s: &[u8], q: ItemData, index: u64) -> Element
-    requires { ⌜ (q .start + q .size ≤ length (now s)) × (q .start < 0x100000000) ⌝ }
+    requires { ⌜ Checked (now s) q ⌝ }
     ensures { λ r. ⌜ element r ≡ answer (elementOf q index) (now (s .entry)) ⌝ }
 {
     match type_of(q.element_type) {

@@ -6,10 +6,13 @@ use crate::lookup::ItemData;
 use crate::lookup::lookup;
 ghost use mathlib.Core.Path.{_≡_};
 ghost use mathlib.Core.List.{_++_};
-ghost use Prim.Native.Nat.{_+_, _≤_, _<_};
+ghost use Prim.Native.Nat.{_+_, _*_, _≤_};
 ghost use lib.ListN.{length, drop};
 ghost use Rattle.reading.specs.Check.{answer, mapAnswer};
 ghost use Rattle.reading.specs.Lent.{filled};
+ghost use Rattle.abif.specs.Entry.{typeOf};
+ghost use Rattle.abif.specs.Lookup.{Checked};
+ghost use Rattle.abif.specs.Element.{sizeOf};
 ghost use Rattle.abif.specs.Numbers.{isWhole, wholesAt, numbersOf, numbersReading, copied};
 
 // How many numbers were copied, or the refusal.
@@ -35,7 +38,7 @@ fn is_whole(code: u16) -> bool
 
 // The n numbers that stand w bytes apart from place p on, at the output's front.
 fn copy(l: &[u8], code: u16, w: usize, p: usize, n: usize, out: &mut [i64])
-    requires { ⌜ (w ≤ 0xffff) × (p < 0x2000000000000) × (n ≤ 0xffffffff) × (n ≤ length (now out)) ⌝ }
+    requires { ⌜ (w ≡ sizeOf (typeOf code)) × (p + w * n ≤ length (now l)) × (n ≤ length (now out)) ⌝ }
     ensures { λ _. ⌜ now (out .exit) ≡ wholesAt code w (now (l .entry)) p n ++ drop n (now (out .entry)) ⌝ }
 {
     let mut place = p;
@@ -48,7 +51,7 @@ fn copy(l: &[u8], code: u16, w: usize, p: usize, n: usize, out: &mut [i64])
 }
 
 fn numbers_of(s: &[u8], q: ItemData, first: u64, out: &mut [i64]) -> Copied
-    requires { ⌜ (q .start + q .size ≤ length (now s)) × (q .start < 0x100000000) ⌝ }
+    requires { ⌜ Checked (now s) q ⌝ }
     ensures { λ r. ⌜ copied r ≡ mapAnswer length (answer (numbersOf q first (length (now (out .entry)))) (now (s .entry))) ⌝ }
     ensures { λ _. ⌜ now (out .exit) ≡ filled (answer (numbersOf q first (length (now (out .entry)))) (now (s .entry))) (now (out .entry)) ⌝ }
 {

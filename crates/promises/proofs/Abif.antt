@@ -8,7 +8,7 @@ use lib.ListN.{length}
 use Rattle.reading.specs.Check.{ok, answer, reach}
 use Rattle.abif.specs.Judge.{judging}
 use Rattle.abif.proofs.Reach as Reach
-use Rattle.abif.proofs.lookup.Laws.{found-fits}
+use Rattle.abif.proofs.lookup.Laws.{found-checked}
 use Rattle.abif.proofs.text.Laws.{text-fits}
 use Rattle.promises.specs.Demand3.{Demand3}
 use Rattle.promises.specs.Abif.{Call, judge, openFile, lookup, element, text, entry, wholeNumbers, Answered, checks, span, abif}
@@ -17,7 +17,7 @@ use Rattle.promises.proofs.Demand3.{Needs, demand3}
 fits : (c : Call) (s : List ℕ) (v : Answered c) → answer (checks c) s ≡ ok v → span c v .start + span c v .size ≤ length s
 fits judge s v e = omega arith
 fits openFile s v e = omega arith
-fits (lookup a b) s v e = found-fits s a b v e .0
+fits (lookup a b) s v e = found-checked s a b v e .within
 fits (element a b i) s v e = omega arith
 fits (text a b) s v e = text-fits s a b v e
 fits (entry i) s v e = omega arith

@@ -7,9 +7,9 @@ use native.Mathlib.Omega.{arith}
 use native.Mathlib.Nat.{add-zero, add-suc, add-assoc, add-mul, mul-assoc, mul-comm, mul-le-mul-right, pow-suc, pow-succ'}
 use lib.Arith.{mod-mul}
 use lib.Dec.{lit<}
-use lib.ListN.{length, take, getD, List·getD-eq-default}
+use lib.ListN.{length, take, drop, getD, List·getD-eq-default}
 use lib.Pow.{pow-add}
-use lib.Seq.{getD-take}
+use lib.Seq.{getD-take, getD-drop}
 use Rattle.reading.specs.Number.{number, be, le}
 
 -- a number of w bytes is below 256 ^ w
@@ -35,6 +35,16 @@ module _ (m w p : ℕ) (s : List ℕ) (q : p + w ≤ m) where
   pub le-take : le w (take m s) p ≡ le w s p
   unfolding le
   le-take = number-same w _ _ (λ i h. getD-take m s (p + i) 0 (omega arith))
+
+-- and a number that fills a part of the bytes is the one that stands there
+module _ (w p : ℕ) (s : List ℕ) where
+  pub be-part : be w (take w (drop p s)) 0 ≡ be w s p
+  unfolding be
+  be-part = number-same w _ _ (λ i h. getD-take w (drop p s) (0 + (w - suc i)) 0 (omega arith) ∙ getD-drop p s (0 + (w - suc i)) 0 ∙ ap (λ (k : ℕ). getD s k 0) (omega arith))
+
+  pub le-part : le w (take w (drop p s)) 0 ≡ le w s p
+  unfolding le
+  le-part = number-same w _ _ (λ i h. getD-take w (drop p s) (0 + i) 0 (omega arith) ∙ getD-drop p s (0 + i) 0 ∙ ap (λ (k : ℕ). getD s k 0) (omega arith))
 
 -- bytes past the end read as 0
 number-zero : (w : ℕ) (d : ℕ → ℕ) → ((i : ℕ) → d i ≡ 0) → number w d ≡ 0

@@ -115,42 +115,36 @@ fn directory_offset_bounds(draft: &Draft) -> Vec<i32> {
 
 fn entry_changes(draft: &Draft, index: usize) -> Vec<Change> {
     let entry = &draft.entries[index];
-    let size = i32::from(entry.element_size);
-    let count = entry.count;
     let fields = [
         (Field::TypeCode, type_code_bounds()),
-        (
-            Field::ElementSize,
-            vec![0, -1, size - 1, size + 1, size << 8, 32_767, -32_768],
-        ),
-        (
-            Field::Count,
-            vec![
-                -1,
-                0,
-                count.wrapping_sub(1),
-                count.wrapping_add(1),
-                i32::MAX,
-                i32::MIN,
-            ],
-        ),
+        (Field::ElementSize, element_size_bounds(entry)),
+        (Field::Count, element_count_bounds(entry)),
         (Field::DataSize, data_size_bounds(entry)),
         (Field::Offset, data_offset_bounds(draft, entry)),
         (Field::Name, vec![0, -1]),
         (Field::Number, vec![0, -1, i32::MIN]),
     ];
-    let mut changes = Vec::new();
+    let mut changes = size_changes(entry, index);
     for (field, values) in fields {
-        changes.extend(
-            values
-                .into_iter()
-                .map(|value| Change::Entry(index, field, value)),
-        );
+        for value in values {
+            changes.push(Change::Entry(index, field, value));
+        }
     }
-    changes.extend(size_changes(entry, index));
     let others = (0..draft.entries.len()).filter(|&other| other != index);
     changes.extend(others.map(|other| Change::SameTag(index, other)));
     changes
+}
+
+fn element_size_bounds(entry: &Record) -> Vec<i32> {
+    let size = i32::from(entry.element_size);
+    vec![0, -1, size - 1, size + 1, size << 8, 32_767, -32_768]
+}
+
+fn element_count_bounds(entry: &Record) -> Vec<i32> {
+    let count = entry.count;
+    let mut values = vec![-1, 0, i32::MAX, i32::MIN];
+    values.extend([count.wrapping_sub(1), count.wrapping_add(1)]);
+    values
 }
 
 fn type_code_bounds() -> Vec<i32> {
@@ -310,7 +304,7 @@ pub fn random_byte_changes(random: &mut Random) -> Vec<u8> {
             0 => bytes[place] ^ 1 << random.below(8),
             1 => bytes[place].wrapping_add(1),
             2 => random.pick(&[0, 1, 0x7F, 0x80, 0xFF]),
-            _ => random.next() as u8,
+            _ => random.next_u64() as u8,
         };
     }
     bytes

@@ -205,10 +205,10 @@ fn new_tag(random: &mut Random, items: &[(Tag, Content)]) -> Tag {
         let name = random.pick(&NAMES);
         let mut tag = Tag::new(name, random.pick(&NUMBERS));
         if random.one_in(8) {
-            tag.name = random.next() as u32;
+            tag.name = random.next_u64() as u32;
         }
         if random.one_in(8) {
-            tag.number = random.next() as i32;
+            tag.number = random.next_u64() as i32;
         }
         if items.iter().all(|(other, _)| *other != tag) {
             return tag;
@@ -355,7 +355,7 @@ fn overlap(random: &mut Random, draft: &mut Draft) {
 // Changes what a reader must not mind: the version, the reserved bytes, the room in the directory.
 fn loosen(random: &mut Random, draft: &mut Draft) {
     draft.version = random.between(100, 199) as i16;
-    draft.header.handle = random.next() as i32;
+    draft.header.handle = random.next_u64() as i32;
     if random.one_in(3) {
         let extra = random.pick(&[1, 27, 28, 56, 1000, i32::MAX - draft.header.data_size]);
         draft.header.data_size += extra;
@@ -365,10 +365,10 @@ fn loosen(random: &mut Random, draft: &mut Draft) {
         draft.body[34..128].copy_from_slice(&reserved);
     }
     for entry in &mut draft.entries {
-        entry.handle = random.next() as i32;
+        entry.handle = random.next_u64() as i32;
         for place in entry.data_size.clamp(0, 4)..4 {
             if entry.is_inline() {
-                entry.offset[place as usize] = random.next() as u8;
+                entry.offset[place as usize] = random.next_u64() as u8;
             }
         }
     }

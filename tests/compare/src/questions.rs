@@ -159,7 +159,17 @@ fn element_questions(tag: Tag, count: u64, list: &mut Vec<Question>) {
 }
 
 fn whole_number_questions(tag: Tag, count: u64, length: usize, list: &mut Vec<Question>) {
-    let mut firsts = vec![0, 1, 2, count, count + 1, PAST_32_BITS + 1, u64::MAX];
+    let middle = count.div_ceil(2);
+    let mut firsts = vec![
+        0,
+        1,
+        2,
+        middle,
+        count,
+        count + 1,
+        PAST_32_BITS + 1,
+        u64::MAX,
+    ];
     firsts.sort_unstable();
     firsts.dedup();
     for first in firsts {

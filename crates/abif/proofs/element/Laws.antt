@@ -1,24 +1,41 @@
 -- Elements, from the answers of their parts.
 -- Assumes nothing.
 use Prim.Native.Nat.{ℕ, _+_, _-_, _*_, _≤_}
-use mathlib.Core.Path.{_≡_}
+use mathlib.Core.Path.{_≡_, _∙_, ap}
 use mathlib.Core.List.{List}
 use mathlib.Core.Bool.{true, false, not}
 use lib.IntN.{pos}
-use lib.ListN.{length, take}
+use lib.ListN.{length, take, drop}
 use lib.Dec.{eqb}
 use lib.Ieee.{binary32, binary64, ofBits}
+use native.Mathlib.Nat.{add-sub-cancel-left, mul-suc, mul-le-mul-left}
+use native.Mathlib.Omega.{arith}
 use borrow.Author.Tests.{ne-eqb}
 use Rattle.reading.specs.Number.{be, signed}
 use Rattle.reading.specs.Check.{ok, refused, answer, holds}
+use Rattle.reading.proofs.Width.{be-part}
 use Rattle.reading.proofs.Steps.{answer-bind, answer-must, answer-need-present}
 use Rattle.abif.specs.declared.entry.ElementType.the-variants.{Listed}
 use Rattle.abif.specs.declared.lookup.ItemData.{ItemData}
 use Rattle.abif.specs.Entry.{typeOf}
 use Rattle.abif.specs.Element.{single, double, thumb, bool, whole, wholeAt, dateAt, timeAt, valueAt, listed, isElement, elementOf}
 
+-- a number read from a part that it fills
+pub read-part : (w p : ℕ) (l : List ℕ) (r : ℕ) → r ≡ be w (take (p + w - p) (drop p l)) 0 → r ≡ be w l p
+read-part w p l r e = e ∙ rw add-sub-cancel-left (be-part w p l)
+
+-- an element lies within the elements
+pub inside : (w i n : ℕ) → 1 ≤ i → i ≤ n → w * (i - 1) + w ≤ w * n
+inside w i n a b =
+    let e : w * i ≡ w * (i - 1) + w = ap (λ (k : ℕ). w * k) (omega arith) ∙ mul-suc w (i - 1) in
+    omega (arith, mul-le-mul-left w b)
+
 -- the whole number of each type
 module _ (l : List ℕ) (p k : ℕ) where
+  pub whole-one : k ≡ 1 → pos (be 1 l p) ≡ wholeAt k l p
+  unfolding wholeAt
+  whole-one e = rw e
+
   pub whole-char : k ≡ 2 → signed 1 (be 1 l p) ≡ wholeAt k l p
   unfolding wholeAt
   whole-char e = rw e

@@ -18,7 +18,7 @@ use Rattle.reading.proofs.Passed.{bind-ok, done-ok, must-ok}
 use Rattle.abif.specs.declared.lookup.ItemData.{ItemData}
 use Rattle.abif.specs.Lookup.{lookingUp}
 use Rattle.abif.specs.Text.{zeroAmong, pString, cString, textOf, textReading}
-use Rattle.abif.proofs.lookup.Laws.{found-fits}
+use Rattle.abif.proofs.lookup.Laws.{found-checked}
 
 pub zero-start : (l : List ℕ) (p n : ℕ) → Left (λ m. zeroAmong l (p + 0) m) n 0 (zeroAmong l p n)
 zero-start l p n m e =
@@ -121,5 +121,5 @@ text-fits s a b r w =
     let e = bind-ok _ _ s r (d .2) in
     let h : 1 ≤ q .size = leb-true 1 (q .size) (must-ok _ _ 11 s (d .0) (d .1)) in
     let i = either-fits q (e .0) s r h (eqb (q .«element_type») 18) (e .2) in
-    let k = found-fits s a b q (v .1) in
+    let k = found-checked s a b q (v .1) in
     omega arith

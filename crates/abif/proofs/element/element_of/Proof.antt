@@ -19,7 +19,7 @@ enum-known-w c = search needs
 
 -- src/element.rt:174:35
 listed-element-requires : tie.Need-listed-element-requires
-listed-element-requires c κs = (c .before .before .before .before .before .pre .0, c .before .before .before .before .before .pre .1, sym (c .before .before .before .type-of .ensures) ∙ c .before .w .given .1)
+listed-element-requires c κs = (c .before .before .before .before .before .pre, sym (c .before .before .before .type-of .ensures) ∙ c .before .w .given .1)
 
 -- src/element.rt:175:29
 enum-told : tie.Need-enum-told

@@ -2,7 +2,7 @@ use mathlib.Core.Path.{_∙_, sym, ap}
 use Rattle.reading.proofs.Passed.{bind-refused, bind-answered}
 use Rattle.abif.specs.Lookup.{lookingUp, found}
 use Rattle.abif.specs.Element.{elementOf, elementReading}
-use Rattle.abif.proofs.lookup.Laws.{found-fits}
+use Rattle.abif.proofs.lookup.Laws.{found-checked}
 use borrow.Author.Needs.{needs}
 use Rattle.abif.proofs.element.read_element.Statement.{statement}
 use Rattle.abif.proofs.element.read_element.Tie as tie
@@ -27,7 +27,7 @@ enum-known-q c = search needs
 element-of-requires : tie.Need-element-of-requires
 element-of-requires c κs =     let o = c .before .before .before in
     let g = o .before .before .args in
-    found-fits (g .s .now) (g .name) (g .number) _ (sym (o .lookup .ensures) ∙ ap found (c .before .q .given .1))
+    found-checked (g .s .now) (g .name) (g .number) _ (sym (o .lookup .ensures) ∙ ap found (c .before .q .given .1))
 
 -- src/element.rt:181:1
 returns : tie.Need-returns

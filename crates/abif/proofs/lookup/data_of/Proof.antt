@@ -3,7 +3,7 @@ use native.Mathlib.Omega.{arith}
 use Rattle.reading.specs.Part.{shown}
 use Rattle.reading.proofs.Parts.{part-there}
 use Rattle.abif.specs.Lookup.{found}
-use Rattle.abif.proofs.lookup.Laws.{found-fits}
+use Rattle.abif.proofs.lookup.Laws.{found-checked}
 use borrow.Author.Needs.{needs}
 use Rattle.abif.proofs.lookup.data_of.Statement.{statement}
 use Rattle.abif.proofs.lookup.data_of.Tie as tie
@@ -41,8 +41,8 @@ returns-2 : tie.Need-returns-2
 returns-2 c =     let o = c .before .before .before .before in
     let g = o .before .before .args in
     let a = c .before .before in
-    let w = found-fits (g .s .now) (g .name) (g .number) _ (sym (o .lookup .ensures) ∙ ap found (a .q .given .1)) in
-    c .part2 .ensures ∙ part-there (shown (g .s)) _ _ (w .0) ∙ rw (← o .lookup .ensures, a .q .given .1)
+    let w = found-checked (g .s .now) (g .name) (g .number) _ (sym (o .lookup .ensures) ∙ ap found (a .q .given .1)) in
+    c .part2 .ensures ∙ part-there (shown (g .s)) _ _ (w .within) ∙ rw (← o .lookup .ensures, a .q .given .1)
 
 pub data-of-spec : {M : Type 1} → statement M
 data-of-spec =

@@ -1,3 +1,5 @@
+use Rattle.abif.proofs.numbers.Laws.{whole-listed}
+use Rattle.abif.proofs.numbers.Laws.{last-place}
 use Rattle.abif.proofs.numbers.Laws.{of-copied}
 use Prim.Native.Nat.{_+_, _-_, _*_}
 use mathlib.Core.Path.{_≡_, _∙_, sym, ap}
@@ -84,10 +86,15 @@ slice-aggregate-copy c = simp length-take (omega arith)
 
 -- src/numbers.rt:69:9
 copy-requires : tie.Need-copy-requires
-copy-requires c κs =     let w = c .before .before .before .before in
-    let g = w .before .before .before .before .before .before .before .before .before .args in
-    let b = below 16 32 {a = w .width-of .result} {b = g .first - 1} (omega arith) (omega arith) in
-    (omega arith, omega arith, omega arith, omega arith)
+copy-requires c κs =     let d = c .before .before .before .before in
+    let i = d .before .before .before .before .before .before in
+    let w = i .before in
+    let z = w .before .before in
+    let g = z .args in
+    let k = whole-listed (g .q .«element_type») (sym (w .is-whole .ensures) ∙ i .if1 .taken) in
+    let e : g .q .size ≡ d .width-of .result * g .q .count = z .pre .sizes _ k ∙ rw (d .width-of .ensures) in
+    let l = last-place (d .width-of .result) (g .first) (g .q .count) (omega arith) (omega arith) in
+    (d .width-of .ensures, simp length-take (omega arith), omega arith)
 
 -- src/numbers.rt:49:1
 same-length : tie.Need-same-length

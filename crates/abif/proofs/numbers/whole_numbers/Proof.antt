@@ -2,7 +2,7 @@ use mathlib.Core.Path.{_∙_, sym, ap}
 use Rattle.reading.proofs.Passed.{bind-refused, bind-answered}
 use Rattle.abif.specs.Lookup.{lookingUp, found}
 use Rattle.abif.specs.Numbers.{numbersOf, numbersReading}
-use Rattle.abif.proofs.lookup.Laws.{found-fits}
+use Rattle.abif.proofs.lookup.Laws.{found-checked}
 use lib.ListN.{length}
 use borrow.Author.Needs.{needs}
 use Rattle.abif.proofs.numbers.whole_numbers.Statement.{statement}
@@ -28,7 +28,7 @@ enum-known-q c = search needs
 numbers-of-requires : tie.Need-numbers-of-requires
 numbers-of-requires c κs =     let o = c .before .before .before .before in
     let g = o .before .before .args in
-    found-fits (g .s .now) (g .name) (g .number) _ (sym (o .lookup .ensures) ∙ ap found (c .before .before .q .given .1))
+    found-checked (g .s .now) (g .name) (g .number) _ (sym (o .lookup .ensures) ∙ ap found (c .before .before .q .given .1))
 
 -- src/numbers.rt:77:1
 returns : tie.Need-returns

@@ -1,6 +1,6 @@
 use mathlib.Core.Path.{_∙_, sym, ap}
 use Rattle.abif.specs.Lookup.{found}
-use Rattle.abif.proofs.lookup.Laws.{found-fits}
+use Rattle.abif.proofs.lookup.Laws.{found-checked}
 use Rattle.abif.proofs.text.Laws.{reading-refused, reading-found}
 use borrow.Author.Needs.{needs}
 use Rattle.abif.proofs.text.read_text.Statement.{statement}
@@ -20,7 +20,7 @@ text-of-requires c κs =
     let a = c .before in
     let o = a .before .before in
     let g = o .before .before .args in
-    found-fits (g .s .now) (g .name) (g .number) _ (sym (o .lookup .ensures) ∙ ap found (a .q .given .1)) .0
+    found-checked (g .s .now) (g .name) (g .number) _ (sym (o .lookup .ensures) ∙ ap found (a .q .given .1)) .within
 
 returns : tie.Need-returns
 returns c =
