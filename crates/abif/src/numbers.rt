@@ -50,6 +50,21 @@ fn copy(l: &[u8], code: u16, w: usize, p: usize, n: usize, out: &mut [i64])
     }
 }
 
+// The same, with the type and its size told apart before the loop, so that each loop has one kind of number and a fixed step.
+fn copy_of_type(l: &[u8], code: u16, w: usize, p: usize, n: usize, out: &mut [i64])
+    requires { ⌜ (w ≡ sizeOf (typeOf code)) × (p + w * n ≤ length (now l)) × (n ≤ length (now out)) ⌝ }
+    ensures { λ _. ⌜ now (out .exit) ≡ wholesAt code w (now (l .entry)) p n ++ drop n (now (out .entry)) ⌝ }
+{
+    match code {
+        1 => copy(l, 1, 1, p, n, out),
+        2 => copy(l, 2, 1, p, n, out),
+        3 => copy(l, 3, 2, p, n, out),
+        4 => copy(l, 4, 2, p, n, out),
+        5 => copy(l, 5, 4, p, n, out),
+        _ => copy(l, code, w, p, n, out),
+    }
+}
+
 fn numbers_of(s: &[u8], q: ItemData, first: u64, out: &mut [i64]) -> Copied
     requires { ⌜ Checked (now s) q ⌝ }
     ensures { λ r. ⌜ copied r ≡ mapAnswer length (answer (numbersOf q first (length (now (out .entry)))) (now (s .entry))) ⌝ }
@@ -70,7 +85,7 @@ fn numbers_of(s: &[u8], q: ItemData, first: u64, out: &mut [i64]) -> Copied
         let w = width_of(q.element_type) as usize;
         let p = q.start + w * (first - 1) as usize;
         let end = q.start + q.size;
-        copy(&s[..end], q.element_type, w, p, n, out);
+        copy_of_type(&s[..end], q.element_type, w, p, n, out);
         Copied::Count(n as u64)
     } else {
         Copied::Refused(10)

@@ -81,12 +81,12 @@ add-end : tie.Need-add-end
 add-end c = search needs
 
 -- src/numbers.rt:69:14
-slice-aggregate-copy : tie.Need-slice-aggregate-copy
-slice-aggregate-copy c = simp length-take (omega arith)
+slice-aggregate-copy-of-type : tie.Need-slice-aggregate-copy-of-type
+slice-aggregate-copy-of-type c = simp length-take (omega arith)
 
 -- src/numbers.rt:69:9
-copy-requires : tie.Need-copy-requires
-copy-requires c κs =     let d = c .before .before .before .before in
+copy-of-type-requires : tie.Need-copy-of-type-requires
+copy-of-type-requires c κs =     let d = c .before .before .before .before in
     let i = d .before .before .before .before .before .before in
     let w = i .before in
     let z = w .before .before in
@@ -109,7 +109,7 @@ returns-4 c =     let y = c .before in
     let g = w .before .before .args in
     let f : isElement (g .first) (g .q .count) ≡ true = rw (le-leb 1 (g .first) (omega arith), le-leb (g .first) (g .q .count) (omega arith)) in
     let r = le-leb (g .q .count - (g .first - 1)) (length (g .out .now)) (omega arith) in
-    of-copied (g .s .now) (g .q) (g .first) (g .out .now) _ (d .width-of .result) (d .width-of .ensures) (sym (w .is-whole .ensures) ∙ i .if1 .taken) f r (omega arith) (y .copy .ensures)
+    of-copied (g .s .now) (g .q) (g .first) (g .out .now) _ (d .width-of .result) (d .width-of .ensures) (sym (w .is-whole .ensures) ∙ i .if1 .taken) f r (omega arith) (y .copy-of-type .ensures)
 
 -- src/numbers.rt:49:1
 returns-5 : tie.Need-returns-5
@@ -134,8 +134,8 @@ numbers-of-spec =
     mul-p
     add-p
     add-end
-    slice-aggregate-copy
-    copy-requires
+    slice-aggregate-copy-of-type
+    copy-of-type-requires
     same-length
     returns-4
     returns-5)

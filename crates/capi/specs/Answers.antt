@@ -1,0 +1,22 @@
+-- The struct that each answer of the paper is for a C program.
+-- Assumes nothing.
+use Prim.Native.Nat.{ℕ}
+use Rattle.reading.specs.Check.{Answer, ok, refused}
+use Rattle.reading.specs.Part.{Span}
+use Rattle.capi.specs.declared.answers.Verdict.{Verdict}
+use Rattle.capi.specs.declared.answers.Part.{Part}
+use Rattle.capi.specs.declared.answers.Listed.{Listed}
+
+-- judging's extent, of a format that has no unjudged entries
+abbrev pub asVerdict : Answer ℕ → Verdict
+asVerdict (ok x) = record { refusal = 0; entry = 0; extent = x; unjudged = 0 }
+asVerdict (refused n e) = record { refusal = n; entry = e; extent = 0; unjudged = 0 }
+
+abbrev pub asPart : Answer Span → Part
+asPart (ok q) = record { refusal = 0; start = q .start; length = q .size }
+asPart (refused n e) = record { refusal = n; start = 0; length = 0 }
+
+-- the number of things put into the lent output
+abbrev pub asListed : Answer ℕ → Listed
+asListed (ok n) = record { refusal = 0; count = n }
+asListed (refused n e) = record { refusal = n; count = 0 }

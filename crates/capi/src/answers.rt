@@ -1,0 +1,59 @@
+// The answers that C programs get. `refusal` is 0 for an answer, else the refusal's number, and then every other field is 0, but for a verdict's entry.
+
+// What judging finds; `unjudged` counts a GTC file's entries that are not judged.
+#[repr(C)]
+pub struct Verdict {
+    pub refusal: u64,
+    pub entry: u64,
+    pub extent: u64,
+    pub unjudged: u64,
+}
+
+// An ABIF file's directory.
+#[repr(C)]
+pub struct Opened {
+    pub refusal: u64,
+    pub place: u64,
+    pub count: u64,
+}
+
+// An item: its type's code, which C calls `type`, its number of elements, and where its data stand.
+#[repr(C)]
+pub struct Item {
+    pub refusal: u64,
+    pub code: u64,
+    pub count: u64,
+    pub start: u64,
+    pub length: u64,
+}
+
+// An element of an ABIF item; `kind` tells which fields hold it.
+#[repr(C)]
+pub struct Element {
+    pub refusal: u64,
+    pub kind: u64,
+    pub whole: i64,
+    pub single: f32,
+    pub single_bits: u32,
+    pub real: f64,
+    pub real_bits: u64,
+    pub a: i32,
+    pub b: i32,
+    pub c: i32,
+    pub d: i32,
+}
+
+// Where a part of the caller's bytes stands.
+#[repr(C)]
+pub struct Part {
+    pub refusal: u64,
+    pub start: u64,
+    pub length: u64,
+}
+
+// How many of something were put into the lent output.
+#[repr(C)]
+pub struct Listed {
+    pub refusal: u64,
+    pub count: u64,
+}

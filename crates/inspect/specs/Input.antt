@@ -1,0 +1,13 @@
+-- What the input is: too long, or told by the mark at its front.
+-- Assumes nothing.
+use Prim.Native.Nat.{ℕ}
+use mathlib.Core.List.{List}
+use lib.Dec.{leb, eqb}
+use lib.ListN.{length}
+use Rattle.reading.specs.Choice.{pick}
+use Rattle.reading.specs.Number.{be}
+use Rattle.inspect.specs.declared.input.Input.{Input}
+use Rattle.inspect.specs.declared.input.Input.the-variants.{TooLong, Unknown, Abif}
+
+abbrev pub inputOf : List ℕ → Input
+inputOf s = pick (leb (length s) 65536) (pick (eqb (be 4 s 0) 0x41424946) Abif Unknown) TooLong

@@ -1,0 +1,119 @@
+/* Sequencing data files in memory: calls for C over the proved library. Link with libcapi.a.
+
+   Each call is given one file as its bytes: `bytes`, `len`. The caller sees to it that `len` bytes can be read at
+   `bytes`, and that `room` elements can be written at `out`; NULL is fine where the length is 0. A call keeps nothing
+   and changes only what it is lent as output. Places are offsets into `bytes`.
+
+   An answer has refusal 0. Else `refusal` is one of these numbers, and every other field is 0, but for a verdict's entry:
+
+      1  cut short: a byte that the rule needs lies at or past the end
+      2  opening mark of another kind
+      3  version not handled
+      4  header fields contradict the format
+      5  more than 999 entries
+      6  negative offset, or offset below the lowest allowed
+      7  no such tag, id or read
+      8  tag or id stands twice
+      9  sizes or counts contradict each other
+     10  type or id not handled by this call
+     11  a value that the format forbids
+     12  no such element
+     13  lent output too small
+     14  items not strictly ascending
+
+   A tag's name is its four bytes as a big-endian number: "DATA" is 0x44415441. */
+#ifndef JINTARUENG_H
+#define JINTARUENG_H
+
+#include <stddef.h>
+#include <stdint.h>
+
+#ifdef __cplusplus
+extern "C" {
+#endif
+
+/* A whole file's extent; refused, the entry at fault, from one, or 0 for the header and the directory's place. */
+typedef struct jt_verdict {
+    uint64_t refusal;
+    uint64_t entry;
+    uint64_t extent;
+    uint64_t unjudged; /* 0 for ABIF */
+} jt_verdict;
+
+/* A directory's place and its number of entries. */
+typedef struct jt_opened {
+    uint64_t refusal;
+    uint64_t place;
+    uint64_t count;
+} jt_opened;
+
+/* An item: its element type, its number of elements, and where its data stand. */
+typedef struct jt_item {
+    uint64_t refusal;
+    uint64_t type;
+    uint64_t count;
+    uint64_t start;
+    uint64_t length;
+} jt_item;
+
+/* The kinds of elements, with the fields that hold one; the others are 0. */
+enum jt_kind {
+    JT_WHOLE = 1,  /* whole */
+    JT_SINGLE = 2, /* single, and its bits */
+    JT_DOUBLE = 3, /* real, and its bits */
+    JT_DATE = 4,   /* a year, b month, c day */
+    JT_TIME = 5,   /* a hour, b minute, c second, d hundredth */
+    JT_BOOL = 6,   /* whole: 0 or 1 */
+    JT_THUMB = 7   /* a, b, c, d */
+};
+
+/* An element of an item. A float that is a NaN is some NaN; its bits are the file's. */
+typedef struct jt_element {
+    uint64_t refusal;
+    uint64_t kind;
+    int64_t whole;
+    float single;
+    uint32_t single_bits;
+    double real;
+    uint64_t real_bits;
+    int32_t a, b, c, d;
+} jt_element;
+
+/* Where a part of the bytes stands. */
+typedef struct jt_part {
+    uint64_t refusal;
+    uint64_t start;
+    uint64_t length;
+} jt_part;
+
+/* How many elements were written to the lent output. */
+typedef struct jt_listed {
+    uint64_t refusal;
+    uint64_t count;
+} jt_listed;
+
+/* Whether the bytes are a whole ABIF file, and its extent. */
+jt_verdict jt_abif_judge(const uint8_t *bytes, size_t len);
+
+/* Where the directory stands: the checks of the header and of the directory's place. */
+jt_opened jt_abif_open(const uint8_t *bytes, size_t len);
+
+/* The item with this tag. */
+jt_item jt_abif_lookup(const uint8_t *bytes, size_t len, uint32_t name, int32_t number);
+
+/* Element `index`, from one, of the item with this tag. */
+jt_element jt_abif_element(const uint8_t *bytes, size_t len, uint32_t name, int32_t number, uint64_t index);
+
+/* Where the text of the pString or cString with this tag stands, without its length byte or closing zero. */
+jt_part jt_abif_text(const uint8_t *bytes, size_t len, uint32_t name, int32_t number);
+
+/* The elements of the item with this tag from number `first` on, as many as are left, at the front of `out`. Refusals:
+   the lookup's, 10 for a type whose elements are not whole numbers, 12, 13. Refused, `out` is unchanged. */
+jt_listed jt_abif_whole_numbers(const uint8_t *bytes, size_t len, uint32_t name, int32_t number, uint64_t first,
+                                int64_t *out, size_t room);
+
+#ifdef __cplusplus
+}
+#endif
+
+#endif
