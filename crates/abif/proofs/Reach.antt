@@ -1,7 +1,7 @@
 -- What the reading calls of ABIF need: judging just the extent that it answers, and no other call more.
 -- Assumes nothing.
 use Prim.Native.Nat.{ℕ, zero, suc, _+_, _*_, _≤_, _<_, max, min}
-use mathlib.Core.Path.{_≡_, refl, sym, _∙_, subst}
+use mathlib.Core.Path.{_≡_, sym, _∙_, subst}
 use mathlib.Core.List.{List}
 use mathlib.Core.Bool.{Bool, true, false}
 use native.Mathlib.Omega.{arith}
@@ -10,7 +10,7 @@ use lib.Dec.{leb, eqb}
 use borrow.Author.Tests.{ltb-true}
 use Rattle.reading.specs.Choice.{pick}
 use Rattle.reading.specs.declared.check.Rule.the-variants.{AtLeast}
-use Rattle.reading.specs.Check.{Check, Answer, ok, refused, answer, reach, holds, done, must, need, _>>=_, _>>_}
+use Rattle.reading.specs.Check.{Check, ok, answer, reach, holds, done, must, need, _>>=_, _>>_}
 use Rattle.reading.proofs.Cut.{answer-same}
 use Rattle.reading.proofs.Steps.{reach-done, reach-must, reach-need, reach-at}
 use Rattle.reading.proofs.Passed.{bind-ok, done-ok, must-ok, at-ok, ok-inj}

@@ -12,7 +12,7 @@ use Rattle.abif.proofs.lookup.Laws.{found-checked}
 use Rattle.abif.proofs.text.Laws.{text-fits}
 use Rattle.promises.specs.Demand3.{Demand3}
 use Rattle.promises.specs.Abif.{Call, judge, openFile, lookup, element, text, entry, wholeNumbers, Answered, checks, span, abif}
-use Rattle.promises.proofs.Demand3.{Needs, demand3}
+use Rattle.promises.proofs.Demand3.{demand3}
 
 fits : (c : Call) (s : List ℕ) (v : Answered c) → answer (checks c) s ≡ ok v → span c v .start + span c v .size ≤ length s
 fits judge s v e = omega arith

@@ -7,12 +7,12 @@ use mathlib.Core.List.{List}
 use native.Mathlib.Omega.{arith}
 use lib.ListN.{length, take, length-take}
 use Rattle.reading.specs.Check.{Answer, ok, refused, mapAnswer, answer, reach}
-use Rattle.reading.specs.Demand.{Refused1, refused1, Cuts}
+use Rattle.reading.specs.Demand.{Refused1, refused1}
 use Rattle.reading.specs.Part.{Part, cutTo, Span, handedBack}
 use Rattle.reading.specs.Lent.{filled}
 use Rattle.reading.proofs.Cut.{answer-same, cuts, steady}
 use Rattle.reading.proofs.Parts.{handed-kept}
-use Rattle.promises.specs.Demand3.{Format, Seen, seen, refusal, CutShort, JudgedWhole, Demand3}
+use Rattle.promises.specs.Demand3.{Format, Seen, seen, CutShort, Demand3}
 
 -- what is shown of a format: the parts handed back lie within the file, judging needs just the extent, and no other call needs more
 pub record Needs (f : Format) : Type 0 where

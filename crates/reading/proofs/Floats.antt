@@ -1,11 +1,11 @@
 -- Bits of a NaN and of another float, at both formats: `ones` is the largest exponent field, and only a NaN has other digits there.
 -- Assumes nothing.
-use mathlib.Core.Path.{_≡_, refl, sym, ap, subst, _∙_}
-use mathlib.Core.Bool.{Bool, true, false, not, _&&_, cond}
+use mathlib.Core.Path.{_≡_, refl, sym, subst}
+use mathlib.Core.Bool.{Bool, true, false, not, _&&_}
 use Prim.Native.Nat.{ℕ, _%_, _/_}
 use borrow.Author.Tests.{eq-eqb, ne-eqb, eqb-true}
-use lib.Dec.{T, leb}
-use lib.Ieee.{Format, binary32, binary64, nan, inf, ofBits, ofFields, nanBits, top, hid, ones}
+use lib.Dec.{T}
+use lib.Ieee.{Format, binary32, binary64, nan, ofBits, ofFields, nanBits, top, hid, ones}
 
 if-then : (p q : Bool) → (p ≡ true → q ≡ true) → T (not (p && not q))
 if-then true true h = tt

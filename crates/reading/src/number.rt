@@ -79,7 +79,10 @@ fn be32_inside(s: &[u8], p: usize) -> u32
 fn be32_past(s: &[u8], p: usize) -> u32
     ensures { λ r. ⌜ r ≡ be 4 (now (s .entry)) p ⌝ }
 {
-    16777216 * wide32(first(s, p)) + 65536 * wide32(byte_after(s, p, 1)) + 256 * wide32(byte_after(s, p, 2)) + wide32(byte_after(s, p, 3))
+    16777216 * wide32(first(s, p))
+        + 65536 * wide32(byte_after(s, p, 1))
+        + 256 * wide32(byte_after(s, p, 2))
+        + wide32(byte_after(s, p, 3))
 }
 
 pub fn be32(s: &[u8], p: usize) -> u32
@@ -150,7 +153,10 @@ fn le32_inside(s: &[u8], p: usize) -> u32
 fn le32_past(s: &[u8], p: usize) -> u32
     ensures { λ r. ⌜ r ≡ le 4 (now (s .entry)) p ⌝ }
 {
-    wide32(first(s, p)) + 256 * wide32(byte_after(s, p, 1)) + 65536 * wide32(byte_after(s, p, 2)) + 16777216 * wide32(byte_after(s, p, 3))
+    wide32(first(s, p))
+        + 256 * wide32(byte_after(s, p, 1))
+        + 65536 * wide32(byte_after(s, p, 2))
+        + 16777216 * wide32(byte_after(s, p, 3))
 }
 
 pub fn le32(s: &[u8], p: usize) -> u32

@@ -1,68 +1,51 @@
 use mathlib.Core.Path.{_≡_, _∙_, ap}
 use mir.Syntax.{w16}
 use mir.Val.{toZ, ofZ}
-use mir.Facts.{toZ-ofZ}
+use borrow.Author.Needs.{needs}
 use Rattle.reading.specs.Number.{be, signed}
 use Rattle.reading.specs.Check.{answer}
 use Rattle.reading.proofs.Tests.{tests}
 use Rattle.abif.specs.Element.{dateAt}
-use borrow.Author.Needs.{needs}
 use Rattle.abif.proofs.element.date_at.Statement.{statement}
 use Rattle.abif.proofs.element.date_at.Tie as tie
-use Rattle.abif.proofs.element.date_at.Reads as reads
-use Rattle.abif.proofs.element.date_at.Lts as lts
-use Rattle.reading.proofs.number.be16.Reads as be16-reads
-use Rattle.reading.proofs.number.byte.Reads as byte-reads
-use Rattle.reading.proofs.number.signed16.Reads as signed16-reads
 
--- src/element.rt:77:25
 be16-requires : tie.Need-be16-requires
 be16-requires c κs = search needs
 
--- src/element.rt:77:9
 signed16-requires : tie.Need-signed16-requires
 signed16-requires c κs = search needs
 
--- src/element.rt:78:25
 add-byte : tie.Need-add-byte
 add-byte c = search needs
 
--- src/element.rt:78:9
 byte-requires : tie.Need-byte-requires
 byte-requires c κs = search needs
 
--- src/element.rt:79:23
 add-byte-2 : tie.Need-add-byte-2
 add-byte-2 c = search needs
 
--- src/element.rt:79:9
 byte-requires-2 : tie.Need-byte-requires-2
 byte-requires-2 c κs = search needs
 
--- src/element.rt:81:9
 returns : tie.Need-returns
 unfolding dateAt answer
 returns c s = search (tests, ← c .before .byte2 .ensures, ← c .before .before .byte .ensures)
 
--- src/element.rt:84:9
 returns-2 : tie.Need-returns-2
 unfolding dateAt answer
 returns-2 c s = search (tests, ← c .before .before .byte2 .ensures, ← c .before .before .before .byte .ensures)
 
--- src/element.rt:87:9
 returns-3 : tie.Need-returns-3
 unfolding dateAt answer
 returns-3 c s = search (tests, ← c .before .before .before .byte2 .ensures, ← c .before .before .before .before .byte .ensures)
 
--- src/element.rt:90:9
 returns-4 : tie.Need-returns-4
 unfolding dateAt answer
 returns-4 c s = search (tests, ← c .before .before .before .before .byte2 .ensures, ← c .before .before .before .before .before .byte .ensures)
 
--- src/element.rt:73:1
 returns-5 : tie.Need-returns-5
 unfolding dateAt answer
-returns-5 c s =     let a = c .before .before .before .before in
+returns-5 c s = let a = c .before .before .before .before in
     let y = a .before .before in
     let g = y .before .before .before .args in
     let f : toZ w16 (ofZ w16 (y .signed16 .result)) ≡ y .signed16 .result = search needs in

@@ -1,45 +1,35 @@
 use mathlib.Core.Path.{_∙_, sym, ap}
+use borrow.Author.Needs.{needs}
 use Rattle.reading.proofs.Passed.{bind-refused, bind-answered}
 use Rattle.abif.specs.Lookup.{lookingUp, found}
 use Rattle.abif.specs.Element.{elementOf, elementReading}
 use Rattle.abif.proofs.lookup.Laws.{found-checked}
-use borrow.Author.Needs.{needs}
 use Rattle.abif.proofs.element.read_element.Statement.{statement}
 use Rattle.abif.proofs.element.read_element.Tie as tie
-use Rattle.abif.proofs.element.read_element.Reads as reads
-use Rattle.abif.proofs.element.read_element.Lts as lts
-use Rattle.abif.proofs.element.element_of.Reads as element-of-reads
-use Rattle.abif.proofs.lookup.lookup.Reads as lookup-reads
 
--- src/element.rt:184:11
 lookup-requires : tie.Need-lookup-requires
 lookup-requires c κs = search needs
 
--- src/element.rt:185:24
 enum-known-n : tie.Need-enum-known-n
 enum-known-n c = search needs
 
--- src/element.rt:186:21
 enum-known-q : tie.Need-enum-known-q
 enum-known-q c = search needs
 
--- src/element.rt:186:27
 element-of-requires : tie.Need-element-of-requires
-element-of-requires c κs =     let o = c .before .before .before in
+element-of-requires c κs = let o = c .before .before .before in
     let g = o .before .before .args in
     found-checked (g .s .now) (g .name) (g .number) _ (sym (o .lookup .ensures) ∙ ap found (c .before .q .given .1))
 
--- src/element.rt:181:1
 returns : tie.Need-returns
 unfolding elementReading
-returns c =     let o = c .before .before .before in
+returns c = let o = c .before .before .before in
     let g = o .before .before .args in
     bind-refused (lookingUp (g .name) (g .number)) (λ q. elementOf q (g .index)) (g .s .now) _ 0 (sym (o .lookup .ensures) ∙ ap found (c .before .n .given .1))
 
--- src/element.rt:181:1
 returns-2 : tie.Need-returns-2
 unfolding elementReading
-returns-2 c =     let o = c .before .before .before .before in
+returns-2 c = let o = c .before .before .before .before in
     let g = o .before .before .args in
     c .element-of .ensures ∙ bind-answered (lookingUp (g .name) (g .number)) (λ q. elementOf q (g .index)) (g .s .now) _ (sym (o .lookup .ensures) ∙ ap found (c .before .before .q .given .1))
 

@@ -1,119 +1,81 @@
-use Prim.Native.Nat.{_+_}
-use mathlib.Core.Path.{_≡_, _∙_, ap}
+use mathlib.Core.Path.{_≡_, _∙_}
 use native.Mathlib.Omega.{arith}
 use mir.Syntax.{w32, w64}
 use mir.Val.{toZ, ofZ}
-use lib.IntN.{ℤ}
-use Rattle.reading.specs.Number.{be, signed}
-use Rattle.reading.specs.Check.{ok}
-use Rattle.abif.specs.Element.{whole}
-use Rattle.abif.proofs.element.Laws.{value-single, value-double, value-date, value-time, value-thumb, value-bool, value-whole}
 use borrow.Author.Needs.{needs}
+use Rattle.abif.proofs.element.Laws.{value-single, value-double, value-date, value-time, value-thumb, value-bool, value-whole}
 use Rattle.abif.proofs.element.value_at.Statement.{statement}
 use Rattle.abif.proofs.element.value_at.Tie as tie
-use Rattle.abif.proofs.element.value_at.Reads as reads
-use Rattle.abif.proofs.element.value_at.Lts as lts
-use Rattle.abif.proofs.element.date_at.Reads as date-at-reads
-use Rattle.abif.proofs.element.time_at.Reads as time-at-reads
-use Rattle.abif.proofs.element.whole_at.Reads as whole-at-reads
-use Rattle.reading.proofs.float.double.Reads as double-reads
-use Rattle.reading.proofs.float.single.Reads as single-reads
-use Rattle.reading.proofs.number.be32.Reads as be32-reads
-use Rattle.reading.proofs.number.be64.Reads as be64-reads
-use Rattle.reading.proofs.number.byte.Reads as byte-reads
-use Rattle.reading.proofs.number.signed32.Reads as signed32-reads
 
--- src/element.rt:129:17
 be32-requires : tie.Need-be32-requires
 be32-requires c κs = search needs
 
--- src/element.rt:130:29
 single-requires : tie.Need-single-requires
 single-requires c κs = search needs
 
--- src/element.rt:133:17
 be64-requires : tie.Need-be64-requires
 be64-requires c κs = search needs
 
--- src/element.rt:134:29
 double-requires : tie.Need-double-requires
 double-requires c κs = search needs
 
--- src/element.rt:136:15
 date-at-requires : tie.Need-date-at-requires
 date-at-requires c κs = search needs
 
--- src/element.rt:137:15
 time-at-requires : tie.Need-time-at-requires
 time-at-requires c κs = search needs
 
--- src/element.rt:139:30
 be32-requires-2 : tie.Need-be32-requires-2
 be32-requires-2 c κs = search needs
 
--- src/element.rt:139:17
 signed32-requires : tie.Need-signed32-requires
 signed32-requires c κs = search needs
 
--- src/element.rt:140:38
 add-be32 : tie.Need-add-be32
 add-be32 c = search needs
 
--- src/element.rt:140:30
 be32-requires-3 : tie.Need-be32-requires-3
 be32-requires-3 c κs = search needs
 
--- src/element.rt:140:17
 signed32-requires-2 : tie.Need-signed32-requires-2
 signed32-requires-2 c κs = search needs
 
--- src/element.rt:144:28
 add-byte : tie.Need-add-byte
 add-byte c = search needs
 
--- src/element.rt:144:20
 byte-requires : tie.Need-byte-requires
 byte-requires c κs = search needs
 
--- src/element.rt:145:28
 add-byte-2 : tie.Need-add-byte-2
 add-byte-2 c = search needs
 
--- src/element.rt:145:20
 byte-requires-2 : tie.Need-byte-requires-2
 byte-requires-2 c κs = search needs
 
--- src/element.rt:148:29
 byte-requires-3 : tie.Need-byte-requires-3
 byte-requires-3 c κs = search needs
 
--- src/element.rt:149:29
 whole-at-requires : tie.Need-whole-at-requires
 whole-at-requires c κs = search needs
 
--- src/element.rt:123:1
 returns : tie.Need-returns
-returns c s =     let g = c .before .before .before .before .args in
+returns c s = let g = c .before .before .before .before .args in
     rw (c .single .ensures, c .before .be32 .ensures) (value-single (g .l .now) (g .p) (g .code) s (c .before .before .match .keys1))
 
--- src/element.rt:123:1
 returns-2 : tie.Need-returns-2
-returns-2 c s =     let g = c .before .before .before .before .args in
+returns-2 c s = let g = c .before .before .before .before .args in
     rw (c .double .ensures, c .before .be64 .ensures) (value-double (g .l .now) (g .p) (g .code) s (c .before .before .match .keys2))
 
--- src/element.rt:123:1
 returns-3 : tie.Need-returns-3
-returns-3 c s =     let g = c .before .before .before .args in
+returns-3 c s = let g = c .before .before .before .args in
     c .date-at .ensures s ∙ value-date (g .l .now) (g .p) (g .code) s (c .before .match .keys3)
 
--- src/element.rt:123:1
 returns-4 : tie.Need-returns-4
-returns-4 c s =     let g = c .before .before .before .args in
+returns-4 c s = let g = c .before .before .before .args in
     c .time-at .ensures s ∙ value-time (g .l .now) (g .p) (g .code) s (c .before .match .keys4)
 
--- src/element.rt:123:1
 returns-5 : tie.Need-returns-5
-returns-5 c s =     let b = c .before in
+returns-5 c s = let b = c .before in
     let u = b .before in
     let d = u .before .before in
     let g = d .before .before .before .before .args in
@@ -121,14 +83,12 @@ returns-5 c s =     let b = c .before in
     let h : toZ w32 (ofZ w32 (u .signed322 .result)) ≡ u .signed322 .result = search needs in
     rw (f, h, d .signed32 .ensures, u .signed322 .ensures, d .before .be322 .ensures, u .before .be323 .ensures, b .byte .ensures, c .byte2 .ensures) (value-thumb (g .l .now) (g .p) (g .code) s (d .before .before .match .keys5))
 
--- src/element.rt:123:1
 returns-6 : tie.Need-returns-6
-returns-6 c s =     let g = c .before .before .before .args in
+returns-6 c s = let g = c .before .before .before .args in
     rw (c .byte3 .ensures) (value-bool (g .l .now) (g .p) (g .code) s (c .before .match .keys6))
 
--- src/element.rt:123:1
 returns-7 : tie.Need-returns-7
-returns-7 c s =     let g = c .before .before .before .args in
+returns-7 c s = let g = c .before .before .before .args in
     let f : toZ w64 (ofZ w64 (c .whole-at .result)) ≡ c .whole-at .result = search needs in
     rw (f, c .whole-at .ensures) (value-whole (g .l .now) (g .p) (g .code) s (λ e. omega arith) (λ e. omega arith) (λ e. omega arith) (λ e. omega arith) (λ e. omega arith) (λ e. omega arith))
 

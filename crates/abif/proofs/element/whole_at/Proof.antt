@@ -3,200 +3,151 @@ use native.Mathlib.Omega.{arith}
 use lib.IntN.{pos}
 use mir.Syntax.{w8, w16, w32, w64}
 use mir.Facts.{toZ-pos}
+use borrow.Author.Needs.{needs}
 use Rattle.reading.specs.Number.{signed}
 use Rattle.reading.proofs.Signs.{widened-fits, widened}
 use Rattle.abif.specs.Entry.{typeOf}
 use Rattle.abif.proofs.element.Laws.{read-part, whole-one, whole-char, whole-word, whole-short, whole-long, whole-byte}
-use borrow.Author.Needs.{needs}
 use Rattle.abif.proofs.element.whole_at.Statement.{statement}
 use Rattle.abif.proofs.element.whole_at.Tie as tie
-use Rattle.abif.proofs.element.whole_at.Reads as reads
-use Rattle.abif.proofs.element.whole_at.Lts as lts
-use Rattle.reading.proofs.number.be16.Reads as be16-reads
-use Rattle.reading.proofs.number.be32.Reads as be32-reads
-use Rattle.reading.proofs.number.byte.Reads as byte-reads
-use Rattle.reading.proofs.number.signed16.Reads as signed16-reads
-use Rattle.reading.proofs.number.signed32.Reads as signed32-reads
-use Rattle.reading.proofs.number.signed8.Reads as signed8-reads
 
--- src/element.rt:68:23
 add-end : tie.Need-add-end
 add-end c = search needs
 
--- src/element.rt:69:18
 sub-byte : tie.Need-sub-byte
 sub-byte c = search needs
 
--- src/element.rt:69:18
 part-byte-start : tie.Need-part-byte-start
 part-byte-start c = search needs
 
--- src/element.rt:69:18
 part-byte-end : tie.Need-part-byte-end
 unfolding typeOf
 part-byte-end c = rw (c .match .keys1) at (c .before .before .pre)
 
--- src/element.rt:69:13
 byte-requires : tie.Need-byte-requires
 byte-requires c κs = search needs
 
--- src/element.rt:69:13
 cast-result : tie.Need-cast-result
 cast-result c = search needs
 
--- src/element.rt:72:23
 add-end-2 : tie.Need-add-end-2
 add-end-2 c = search needs
 
--- src/element.rt:73:26
 sub-byte-2 : tie.Need-sub-byte-2
 sub-byte-2 c = search needs
 
--- src/element.rt:73:26
 part-byte-start-2 : tie.Need-part-byte-start-2
 part-byte-start-2 c = search needs
 
--- src/element.rt:73:26
 part-byte-end-2 : tie.Need-part-byte-end-2
 unfolding typeOf
 part-byte-end-2 c = rw (c .match .keys2) at (c .before .before .pre)
 
--- src/element.rt:73:21
 byte-requires-2 : tie.Need-byte-requires-2
 byte-requires-2 c κs = search needs
 
--- src/element.rt:73:13
 signed8-requires : tie.Need-signed8-requires
 signed8-requires c κs = search needs
 
--- src/element.rt:73:13
 cast-result-2 : tie.Need-cast-result-2
 cast-result-2 c = widened-fits w8 w64 (c .signed8 .result) tt (search needs)
 
--- src/element.rt:76:23
 add-end-3 : tie.Need-add-end-3
 add-end-3 c = search needs
 
--- src/element.rt:77:18
 sub-be16 : tie.Need-sub-be16
 sub-be16 c = search needs
 
--- src/element.rt:77:18
 part-be16-start : tie.Need-part-be16-start
 part-be16-start c = search needs
 
--- src/element.rt:77:18
 part-be16-end : tie.Need-part-be16-end
 unfolding typeOf
 part-be16-end c = rw (c .match .keys3) at (c .before .before .pre)
 
--- src/element.rt:77:13
 be16-requires : tie.Need-be16-requires
 be16-requires c κs = search needs
 
--- src/element.rt:77:13
 cast-result-3 : tie.Need-cast-result-3
 cast-result-3 c = search needs
 
--- src/element.rt:80:23
 add-end-4 : tie.Need-add-end-4
 add-end-4 c = search needs
 
--- src/element.rt:81:27
 sub-be16-2 : tie.Need-sub-be16-2
 sub-be16-2 c = search needs
 
--- src/element.rt:81:27
 part-be16-start-2 : tie.Need-part-be16-start-2
 part-be16-start-2 c = search needs
 
--- src/element.rt:81:27
 part-be16-end-2 : tie.Need-part-be16-end-2
 unfolding typeOf
 part-be16-end-2 c = rw (c .match .keys4) at (c .before .before .pre)
 
--- src/element.rt:81:22
 be16-requires-2 : tie.Need-be16-requires-2
 be16-requires-2 c κs = search needs
 
--- src/element.rt:81:13
 signed16-requires : tie.Need-signed16-requires
 signed16-requires c κs = search needs
 
--- src/element.rt:81:13
 cast-result-4 : tie.Need-cast-result-4
 cast-result-4 c = widened-fits w16 w64 (c .signed16 .result) tt (search needs)
 
--- src/element.rt:84:23
 add-end-5 : tie.Need-add-end-5
 add-end-5 c = search needs
 
--- src/element.rt:85:27
 sub-be32 : tie.Need-sub-be32
 sub-be32 c = search needs
 
--- src/element.rt:85:27
 part-be32-start : tie.Need-part-be32-start
 part-be32-start c = search needs
 
--- src/element.rt:85:27
 part-be32-end : tie.Need-part-be32-end
 unfolding typeOf
 part-be32-end c = rw (c .match .keys5) at (c .before .before .pre)
 
--- src/element.rt:85:22
 be32-requires : tie.Need-be32-requires
 be32-requires c κs = search needs
 
--- src/element.rt:85:13
 signed32-requires : tie.Need-signed32-requires
 signed32-requires c κs = search needs
 
--- src/element.rt:85:13
 cast-result-5 : tie.Need-cast-result-5
 cast-result-5 c = widened-fits w32 w64 (c .signed32 .result) tt (search needs)
 
--- src/element.rt:87:14
 byte-requires-3 : tie.Need-byte-requires-3
 byte-requires-3 c κs = search needs
 
--- src/element.rt:87:14
 cast-result-6 : tie.Need-cast-result-6
 cast-result-6 c = search needs
 
--- src/element.rt:62:1
 returns : tie.Need-returns
-returns c =     let m = c .before .before in
+returns c = let m = c .before .before in
     let g = m .before .before .args in
     toZ-pos w64 (omega arith) ∙ ap pos (read-part 1 (g .p) (g .l .now) _ (c .byte .ensures)) ∙ whole-one (g .l .now) (g .p) (g .code) (m .match .keys1)
 
--- src/element.rt:62:1
 returns-2 : tie.Need-returns-2
-returns-2 c =     let m = c .before .before .before in
+returns-2 c = let m = c .before .before .before in
     let g = m .before .before .args in
     widened w8 w64 _ tt (search needs) ∙ c .signed8 .ensures ∙ ap (signed 1) (read-part 1 (g .p) (g .l .now) _ (c .before .byte2 .ensures)) ∙ whole-char (g .l .now) (g .p) (g .code) (m .match .keys2)
 
--- src/element.rt:62:1
 returns-3 : tie.Need-returns-3
-returns-3 c =     let m = c .before .before in
+returns-3 c = let m = c .before .before in
     let g = m .before .before .args in
     toZ-pos w64 (omega arith) ∙ ap pos (read-part 2 (g .p) (g .l .now) _ (c .be16 .ensures)) ∙ whole-word (g .l .now) (g .p) (g .code) (m .match .keys3)
 
--- src/element.rt:62:1
 returns-4 : tie.Need-returns-4
-returns-4 c =     let m = c .before .before .before in
+returns-4 c = let m = c .before .before .before in
     let g = m .before .before .args in
     widened w16 w64 _ tt (search needs) ∙ c .signed16 .ensures ∙ ap (signed 2) (read-part 2 (g .p) (g .l .now) _ (c .before .be162 .ensures)) ∙ whole-short (g .l .now) (g .p) (g .code) (m .match .keys4)
 
--- src/element.rt:62:1
 returns-5 : tie.Need-returns-5
-returns-5 c =     let m = c .before .before .before in
+returns-5 c = let m = c .before .before .before in
     let g = m .before .before .args in
     widened w32 w64 _ tt (search needs) ∙ c .signed32 .ensures ∙ ap (signed 4) (read-part 4 (g .p) (g .l .now) _ (c .before .be32 .ensures)) ∙ whole-long (g .l .now) (g .p) (g .code) (m .match .keys5)
 
--- src/element.rt:62:1
 returns-6 : tie.Need-returns-6
-returns-6 c =     let g = c .before .before .before .args in
+returns-6 c = let g = c .before .before .before .args in
     toZ-pos w64 (omega arith) ∙ ap pos (c .byte3 .ensures) ∙ whole-byte (g .l .now) (g .p) (g .code) (λ e. omega arith) (λ e. omega arith) (λ e. omega arith) (λ e. omega arith)
 
 pub whole-at-spec : {M : Type 1} → statement M

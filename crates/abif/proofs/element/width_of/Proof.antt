@@ -1,37 +1,27 @@
 use mathlib.Core.Path.{_∙_, sym, ap}
-use Rattle.abif.specs.Element.{sizeOf}
 use borrow.Author.Needs.{needs}
+use Rattle.abif.specs.Element.{sizeOf}
 use Rattle.abif.proofs.element.width_of.Statement.{statement}
 use Rattle.abif.proofs.element.width_of.Tie as tie
-use Rattle.abif.proofs.element.width_of.Reads as reads
-use Rattle.abif.proofs.element.width_of.Lts as lts
-use Rattle.abif.proofs.entry.type_of.Reads as type-of-reads
 
--- src/element.rt:28:11
 type-of-requires : tie.Need-type-of-requires
 type-of-requires c κs = search needs
 
--- src/element.rt:29:29
 enum-known-w : tie.Need-enum-known-w
 enum-known-w c = search needs
 
--- src/element.rt:30:29
 enum-told : tie.Need-enum-told
 enum-told c = search needs
 
--- src/element.rt:31:33
 enum-told-2 : tie.Need-enum-told-2
 enum-told-2 c = search needs
 
--- src/element.rt:25:1
 returns : tie.Need-returns
 returns c = ap sizeOf (sym (c .before .w .given .1) ∙ c .before .before .before .type-of .ensures)
 
--- src/element.rt:25:1
 returns-2 : tie.Need-returns-2
 returns-2 c = ap sizeOf (sym (c .enum-told .given .1) ∙ c .before .before .type-of .ensures)
 
--- src/element.rt:25:1
 returns-3 : tie.Need-returns-3
 returns-3 c = ap sizeOf (sym (c .enum-told2 .given .1) ∙ c .before .before .type-of .ensures)
 

@@ -1,11 +1,11 @@
 use mathlib.Core.Path.{_∙_, sym, ap}
 use native.Mathlib.Omega.{arith}
 use lib.ListN.{length-take}
+use borrow.Author.Needs.{needs}
 use Rattle.reading.specs.Check.{ok}
 use Rattle.abif.specs.Directory.{opened}
 use Rattle.abif.proofs.directory.Laws.{opened-at}
 use Rattle.abif.proofs.listing.Laws.{entry-refused, entry-before, entry-past, entry-there}
-use borrow.Author.Needs.{needs}
 use Rattle.abif.proofs.listing.entry.Statement.{statement}
 use Rattle.abif.proofs.listing.entry.Tie as tie
 

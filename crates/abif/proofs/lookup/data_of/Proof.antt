@@ -1,44 +1,34 @@
 use mathlib.Core.Path.{_∙_, sym, ap}
 use native.Mathlib.Omega.{arith}
+use borrow.Author.Needs.{needs}
 use Rattle.reading.specs.Part.{shown}
 use Rattle.reading.proofs.Parts.{part-there}
 use Rattle.abif.specs.Lookup.{found}
 use Rattle.abif.proofs.lookup.Laws.{found-checked}
-use borrow.Author.Needs.{needs}
 use Rattle.abif.proofs.lookup.data_of.Statement.{statement}
 use Rattle.abif.proofs.lookup.data_of.Tie as tie
-use Rattle.abif.proofs.lookup.data_of.Reads as reads
-use Rattle.abif.proofs.lookup.data_of.Lts as lts
-use Rattle.abif.proofs.lookup.lookup.Reads as lookup-reads
-use Rattle.reading.proofs.part.part.Reads as part-reads
 
--- src/lookup.rt:94:11
 lookup-requires : tie.Need-lookup-requires
 lookup-requires c κs = search needs
 
--- src/lookup.rt:95:27
 enum-told : tie.Need-enum-told
 enum-told c = search needs
 
--- src/lookup.rt:95:27
 part-requires : tie.Need-part-requires
 part-requires c κs = search needs
 
 enum-known-q : tie.Need-enum-known-q
 enum-known-q c = search needs
 
--- src/lookup.rt:101:14
 part-requires-2 : tie.Need-part-requires-2
 part-requires-2 c κs = search needs
 
--- src/lookup.rt:91:1
 returns : tie.Need-returns
-returns c =     let o = c .before .before .before in
+returns c = let o = c .before .before .before in
     c .part .ensures ∙ part-there (shown (o .before .before .args .s)) 0 0 (omega arith) ∙ rw (← o .lookup .ensures, c .before .enum-told .given .1)
 
--- src/lookup.rt:91:1
 returns-2 : tie.Need-returns-2
-returns-2 c =     let o = c .before .before .before .before in
+returns-2 c = let o = c .before .before .before .before in
     let g = o .before .before .args in
     let a = c .before .before in
     let w = found-checked (g .s .now) (g .name) (g .number) _ (sym (o .lookup .ensures) ∙ ap found (a .q .given .1)) in

@@ -1,123 +1,100 @@
-use Prim.Native.Nat.{_*_}
-use mathlib.Core.Path.{_≡_, refl, _∙_, ap}
-use Rattle.abif.specs.Entry.{typeOf}
-use Rattle.abif.specs.Element.{sizeOf}
+use mathlib.Core.Path.{_≡_, refl, _∙_}
 use borrow.Author.Needs.{needs}
+use Rattle.abif.specs.Entry.{typeOf}
 use Rattle.abif.proofs.numbers.copy_of_type.Statement.{statement}
 use Rattle.abif.proofs.numbers.copy_of_type.Tie as tie
-use Rattle.abif.proofs.numbers.copy_of_type.Reads as reads
-use Rattle.abif.proofs.numbers.copy_of_type.Lts as lts
-use Rattle.abif.proofs.numbers.copy.Reads as copy-reads
 
--- src/numbers.rt:59:14
 copy-requires : tie.Need-copy-requires
 unfolding typeOf
-copy-requires c κs =     let m = c .before in
+copy-requires c κs = let m = c .before in
     let z = m .before .before in
     let e : z .args .w ≡ 1 = z .pre .0 ∙ rw (m .match .keys1) in
     (refl, rw e at (z .pre .1), z .pre .2)
 
--- src/numbers.rt:60:14
 copy-requires-2 : tie.Need-copy-requires-2
 unfolding typeOf
-copy-requires-2 c κs =     let m = c .before in
+copy-requires-2 c κs = let m = c .before in
     let z = m .before .before in
     let e : z .args .w ≡ 1 = z .pre .0 ∙ rw (m .match .keys2) in
     (refl, rw e at (z .pre .1), z .pre .2)
 
--- src/numbers.rt:61:14
 copy-requires-3 : tie.Need-copy-requires-3
 unfolding typeOf
-copy-requires-3 c κs =     let m = c .before in
+copy-requires-3 c κs = let m = c .before in
     let z = m .before .before in
     let e : z .args .w ≡ 2 = z .pre .0 ∙ rw (m .match .keys3) in
     (refl, rw e at (z .pre .1), z .pre .2)
 
--- src/numbers.rt:62:14
 copy-requires-4 : tie.Need-copy-requires-4
 unfolding typeOf
-copy-requires-4 c κs =     let m = c .before in
+copy-requires-4 c κs = let m = c .before in
     let z = m .before .before in
     let e : z .args .w ≡ 2 = z .pre .0 ∙ rw (m .match .keys4) in
     (refl, rw e at (z .pre .1), z .pre .2)
 
--- src/numbers.rt:63:14
 copy-requires-5 : tie.Need-copy-requires-5
 unfolding typeOf
-copy-requires-5 c κs =     let m = c .before in
+copy-requires-5 c κs = let m = c .before in
     let z = m .before .before in
     let e : z .args .w ≡ 4 = z .pre .0 ∙ rw (m .match .keys5) in
     (refl, rw e at (z .pre .1), z .pre .2)
 
--- src/numbers.rt:64:14
 copy-requires-6 : tie.Need-copy-requires-6
 copy-requires-6 c κs = search needs
 
--- src/numbers.rt:54:1
 same-length : tie.Need-same-length
 same-length c = search needs
 
--- src/numbers.rt:54:1
 returns : tie.Need-returns
 unfolding typeOf
-returns c =     let m = c .before .before .before in
+returns c = let m = c .before .before .before in
     let z = m .before .before in
     let e : z .args .w ≡ 1 = z .pre .0 ∙ rw (m .match .keys1) in
     rw (m .match .keys1, e) (c .before .copy .ensures)
 
--- src/numbers.rt:54:1
 same-length-2 : tie.Need-same-length-2
 same-length-2 c = search needs
 
--- src/numbers.rt:54:1
 returns-2 : tie.Need-returns-2
 unfolding typeOf
-returns-2 c =     let m = c .before .before .before in
+returns-2 c = let m = c .before .before .before in
     let z = m .before .before in
     let e : z .args .w ≡ 1 = z .pre .0 ∙ rw (m .match .keys2) in
     rw (m .match .keys2, e) (c .before .copy2 .ensures)
 
--- src/numbers.rt:54:1
 same-length-3 : tie.Need-same-length-3
 same-length-3 c = search needs
 
--- src/numbers.rt:54:1
 returns-3 : tie.Need-returns-3
 unfolding typeOf
-returns-3 c =     let m = c .before .before .before in
+returns-3 c = let m = c .before .before .before in
     let z = m .before .before in
     let e : z .args .w ≡ 2 = z .pre .0 ∙ rw (m .match .keys3) in
     rw (m .match .keys3, e) (c .before .copy3 .ensures)
 
--- src/numbers.rt:54:1
 same-length-4 : tie.Need-same-length-4
 same-length-4 c = search needs
 
--- src/numbers.rt:54:1
 returns-4 : tie.Need-returns-4
 unfolding typeOf
-returns-4 c =     let m = c .before .before .before in
+returns-4 c = let m = c .before .before .before in
     let z = m .before .before in
     let e : z .args .w ≡ 2 = z .pre .0 ∙ rw (m .match .keys4) in
     rw (m .match .keys4, e) (c .before .copy4 .ensures)
 
--- src/numbers.rt:54:1
 same-length-5 : tie.Need-same-length-5
 same-length-5 c = search needs
 
--- src/numbers.rt:54:1
 returns-5 : tie.Need-returns-5
 unfolding typeOf
-returns-5 c =     let m = c .before .before .before in
+returns-5 c = let m = c .before .before .before in
     let z = m .before .before in
     let e : z .args .w ≡ 4 = z .pre .0 ∙ rw (m .match .keys5) in
     rw (m .match .keys5, e) (c .before .copy5 .ensures)
 
--- src/numbers.rt:54:1
 same-length-6 : tie.Need-same-length-6
 same-length-6 c = search needs
 
--- src/numbers.rt:54:1
 returns-6 : tie.Need-returns-6
 returns-6 c = search needs
 

@@ -1,47 +1,36 @@
-use native.Mathlib.Omega.{arith}
 use borrow.Author.Tests.{ne-eqb}
 use Rattle.abif.specs.Numbers.{isWhole}
 use Rattle.abif.proofs.numbers.is_whole.Statement.{statement}
 use Rattle.abif.proofs.numbers.is_whole.Tie as tie
-use Rattle.abif.proofs.numbers.is_whole.Reads as reads
-use Rattle.abif.proofs.numbers.is_whole.Lts as lts
 
--- src/numbers.rt:20:1
 returns : tie.Need-returns
 unfolding isWhole
 returns c = rw (c .match .keys1)
 
--- src/numbers.rt:20:1
 returns-2 : tie.Need-returns-2
 unfolding isWhole
 returns-2 c = rw (c .match .keys2)
 
--- src/numbers.rt:20:1
 returns-3 : tie.Need-returns-3
 unfolding isWhole
 returns-3 c = rw (c .match .keys3)
 
--- src/numbers.rt:20:1
 returns-4 : tie.Need-returns-4
 unfolding isWhole
 returns-4 c = rw (c .match .keys4)
 
--- src/numbers.rt:20:1
 returns-5 : tie.Need-returns-5
 unfolding isWhole
 returns-5 c = rw (c .match .keys5)
 
--- src/numbers.rt:20:1
 returns-6 : tie.Need-returns-6
 unfolding isWhole
 returns-6 c = rw (c .match .keys6)
 
--- src/numbers.rt:20:1
 returns-7 : tie.Need-returns-7
 unfolding isWhole
 returns-7 c = rw (c .match .keys7)
 
--- src/numbers.rt:20:1
 returns-8 : tie.Need-returns-8
 unfolding isWhole
 returns-8 c = rw (ne-eqb (c .before .args .code) 1 (c .match .rest .0 .0 .0 .0 .0 .0 .1), ne-eqb (c .before .args .code) 2 (c .match .rest .0 .0 .0 .0 .0 .1), ne-eqb (c .before .args .code) 3 (c .match .rest .0 .0 .0 .0 .1), ne-eqb (c .before .args .code) 4 (c .match .rest .0 .0 .0 .1), ne-eqb (c .before .args .code) 5 (c .match .rest .0 .0 .1), ne-eqb (c .before .args .code) 18 (c .match .rest .0 .1), ne-eqb (c .before .args .code) 19 (c .match .rest .1))

@@ -1,51 +1,40 @@
 use mathlib.Core.Path.{_∙_, sym, ap}
+use lib.ListN.{length}
+use borrow.Author.Needs.{needs}
 use Rattle.reading.proofs.Passed.{bind-refused, bind-answered}
 use Rattle.abif.specs.Lookup.{lookingUp, found}
 use Rattle.abif.specs.Numbers.{numbersOf, numbersReading}
 use Rattle.abif.proofs.lookup.Laws.{found-checked}
-use lib.ListN.{length}
-use borrow.Author.Needs.{needs}
 use Rattle.abif.proofs.numbers.whole_numbers.Statement.{statement}
 use Rattle.abif.proofs.numbers.whole_numbers.Tie as tie
-use Rattle.abif.proofs.numbers.whole_numbers.Reads as reads
-use Rattle.abif.proofs.numbers.whole_numbers.Lts as lts
-use Rattle.abif.proofs.lookup.lookup.Reads as lookup-reads
-use Rattle.abif.proofs.numbers.numbers_of.Reads as numbers-of-reads
 
--- src/numbers.rt:81:11
 lookup-requires : tie.Need-lookup-requires
 lookup-requires c κs = search needs
 
--- src/numbers.rt:82:24
 enum-known-n : tie.Need-enum-known-n
 enum-known-n c = search needs
 
--- src/numbers.rt:83:21
 enum-known-q : tie.Need-enum-known-q
 enum-known-q c = search needs
 
--- src/numbers.rt:83:27
 numbers-of-requires : tie.Need-numbers-of-requires
-numbers-of-requires c κs =     let o = c .before .before .before .before in
+numbers-of-requires c κs = let o = c .before .before .before .before in
     let g = o .before .before .args in
     found-checked (g .s .now) (g .name) (g .number) _ (sym (o .lookup .ensures) ∙ ap found (c .before .before .q .given .1))
 
--- src/numbers.rt:77:1
 returns : tie.Need-returns
 unfolding numbersReading
-returns c =     let o = c .before .before .before in
+returns c = let o = c .before .before .before in
     let g = o .before .before .args in
     let e = bind-refused (lookingUp (g .name) (g .number)) (λ q. numbersOf q (g .first) (length (g .out .now))) (g .s .now) _ 0 (sym (o .lookup .ensures) ∙ ap found (c .before .n .given .1)) in
     (rw (← e), rw (← e))
 
--- src/numbers.rt:77:1
 same-length : tie.Need-same-length
 same-length c = search needs
 
--- src/numbers.rt:77:1
 returns-2 : tie.Need-returns-2
 unfolding numbersReading
-returns-2 c =     let o = c .before .before .before .before .before .before in
+returns-2 c = let o = c .before .before .before .before .before .before in
     let g = o .before .before .args in
     let e = bind-answered (lookingUp (g .name) (g .number)) (λ q. numbersOf q (g .first) (length (g .out .now))) (g .s .now) _ (sym (o .lookup .ensures) ∙ ap found (c .before .before .before .before .q .given .1)) in
     (c .before .numbers-of .ensures .0 ∙ rw e, c .before .numbers-of .ensures .1 ∙ rw e)

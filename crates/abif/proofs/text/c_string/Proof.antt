@@ -1,5 +1,5 @@
-use Rattle.abif.proofs.text.Laws.{c-bad, c-inner, c-good}
 use borrow.Author.Needs.{needs}
+use Rattle.abif.proofs.text.Laws.{c-bad, c-inner, c-good}
 use Rattle.abif.proofs.text.c_string.Statement.{statement}
 use Rattle.abif.proofs.text.c_string.Tie as tie
 

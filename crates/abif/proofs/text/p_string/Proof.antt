@@ -1,5 +1,5 @@
-use Rattle.abif.proofs.text.Laws.{p-bad, p-good}
 use borrow.Author.Needs.{needs}
+use Rattle.abif.proofs.text.Laws.{p-bad, p-good}
 use Rattle.abif.proofs.text.p_string.Statement.{statement}
 use Rattle.abif.proofs.text.p_string.Tie as tie
 

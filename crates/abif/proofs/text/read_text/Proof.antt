@@ -1,8 +1,8 @@
 use mathlib.Core.Path.{_∙_, sym, ap}
+use borrow.Author.Needs.{needs}
 use Rattle.abif.specs.Lookup.{found}
 use Rattle.abif.proofs.lookup.Laws.{found-checked}
 use Rattle.abif.proofs.text.Laws.{reading-refused, reading-found}
-use borrow.Author.Needs.{needs}
 use Rattle.abif.proofs.text.read_text.Statement.{statement}
 use Rattle.abif.proofs.text.read_text.Tie as tie
 

@@ -2,8 +2,8 @@ use mathlib.Core.Path.{_∙_}
 use mathlib.Core.Logic.{⊎-elim}
 use native.Mathlib.Omega.{arith}
 use lib.ListN.{length-take}
-use Rattle.abif.proofs.text.Laws.{text-other, empty-p, empty-c, text-p, text-c}
 use borrow.Author.Needs.{needs}
+use Rattle.abif.proofs.text.Laws.{text-other, empty-p, empty-c, text-p, text-c}
 use Rattle.abif.proofs.text.text_of.Statement.{statement}
 use Rattle.abif.proofs.text.text_of.Tie as tie
 

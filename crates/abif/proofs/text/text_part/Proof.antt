@@ -1,10 +1,10 @@
 use mathlib.Core.Path.{_∙_, sym, ap}
 use native.Mathlib.Omega.{arith}
+use borrow.Author.Needs.{needs}
 use Rattle.reading.specs.Part.{shown}
 use Rattle.reading.proofs.Parts.{part-there}
 use Rattle.abif.specs.Text.{text}
 use Rattle.abif.proofs.text.Laws.{text-fits}
-use borrow.Author.Needs.{needs}
 use Rattle.abif.proofs.text.text_part.Statement.{statement}
 use Rattle.abif.proofs.text.text_part.Tie as tie
 

@@ -1,11 +1,11 @@
-use lib.IntN.{pos}
-use mir.Syntax.{w16, w32}
 use mathlib.Core.Path.{_∙_, ap}
 use native.Mathlib.Omega.{arith}
+use lib.IntN.{pos}
+use mir.Syntax.{w16, w32}
 use mir.Facts.{toZ-ofZ, toZ-pos}
+use borrow.Author.Needs.{needs}
 use Rattle.reading.proofs.Signs.{widened-fits, widened}
 use Rattle.capi.specs.Abif.{numberElement, fieldsElement}
-use borrow.Author.Needs.{needs}
 use Rattle.capi.proofs.jt_abif.as_element.Statement.{statement}
 use Rattle.capi.proofs.jt_abif.as_element.Tie as tie
 

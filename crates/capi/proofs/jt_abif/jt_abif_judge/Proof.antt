@@ -1,6 +1,6 @@
 use mathlib.Core.Path.{_∙_, ap}
-use Rattle.capi.specs.Answers.{asVerdict}
 use borrow.Author.Needs.{needs}
+use Rattle.capi.specs.Answers.{asVerdict}
 use Rattle.capi.proofs.jt_abif.jt_abif_judge.Statement.{statement}
 use Rattle.capi.proofs.jt_abif.jt_abif_judge.Tie as tie
 

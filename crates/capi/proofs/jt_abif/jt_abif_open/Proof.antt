@@ -1,6 +1,6 @@
 use mathlib.Core.Path.{_∙_, ap}
-use Rattle.capi.specs.Abif.{asOpened}
 use borrow.Author.Needs.{needs}
+use Rattle.capi.specs.Abif.{asOpened}
 use Rattle.capi.proofs.jt_abif.jt_abif_open.Statement.{statement}
 use Rattle.capi.proofs.jt_abif.jt_abif_open.Tie as tie
 

@@ -1,8 +1,8 @@
-use mir.Facts.{toZ-ofZ}
-use Rattle.reading.specs.Number.{bits}
 use mathlib.Core.Path.{_∙_, ap}
-use Rattle.capi.specs.Answers.{asListed}
+use mir.Facts.{toZ-ofZ}
 use borrow.Author.Needs.{needs}
+use Rattle.reading.specs.Number.{bits}
+use Rattle.capi.specs.Answers.{asListed}
 use Rattle.capi.proofs.jt_abif.jt_abif_whole_numbers.Statement.{statement}
 use Rattle.capi.proofs.jt_abif.jt_abif_whole_numbers.Tie as tie
 

@@ -1,6 +1,6 @@
 use mir.Syntax.{w16, w32}
-use Rattle.reading.proofs.Signs.{widened-fits}
 use borrow.Author.Needs.{needs}
+use Rattle.reading.proofs.Signs.{widened-fits}
 use Rattle.inspect.proofs.abif_lines.put_type.Statement.{statement}
 use Rattle.inspect.proofs.abif_lines.put_type.Tie as tie
 

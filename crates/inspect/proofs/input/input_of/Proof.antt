@@ -1,5 +1,5 @@
-use Rattle.reading.proofs.Tests.{tests}
 use borrow.Author.Needs.{needs}
+use Rattle.reading.proofs.Tests.{tests}
 use Rattle.inspect.proofs.input.input_of.Statement.{statement}
 use Rattle.inspect.proofs.input.input_of.Tie as tie
 

@@ -1,10 +1,10 @@
+use Prim.Native.Nat.{_-_}
 use mathlib.Core.Path.{_∙_, ap}
 use native.Mathlib.Omega.{arith}
-use Prim.Native.Nat.{_-_}
 use mir.Facts.{toZ-ofZ}
+use borrow.Author.Needs.{needs}
 use Rattle.reading.specs.Number.{bits}
 use Rattle.inspect.proofs.line.Laws.{bits-up, bits-down}
-use borrow.Author.Needs.{needs}
 use Rattle.inspect.proofs.line.magnitude.Statement.{statement}
 use Rattle.inspect.proofs.line.magnitude.Tie as tie
 

@@ -1,22 +1,17 @@
 use mathlib.Core.Path.{sym}
 use native.Mathlib.Omega.{arith}
 use lib.Ieee.{binary32, ofBits, div}
-use Rattle.reading.proofs.Floats.{of-nan, no-nan}
 use borrow.Author.Needs.{needs}
+use Rattle.reading.proofs.Floats.{of-nan, no-nan}
 use Rattle.reading.proofs.float.single.Statement.{statement}
 use Rattle.reading.proofs.float.single.Tie as tie
-use Rattle.reading.proofs.float.single.Reads as reads
-use Rattle.reading.proofs.float.single.Lts as lts
 
--- src/float.rt:10:16
 float-from-bits-result : tie.Need-float-from-bits-result
 float-from-bits-result c = no-nan binary32 (c .before .args .bits) (λ e. omega arith)
 
--- src/float.rt:10:9
 returns : tie.Need-returns
 returns c = search needs
 
--- src/float.rt:6:1
 returns-2 : tie.Need-returns-2
 unfolding div ofBits
 returns-2 c = sym (of-nan binary32 (c .before .args .bits) (omega arith) (λ e. omega arith))

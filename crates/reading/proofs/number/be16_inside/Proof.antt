@@ -1,42 +1,31 @@
 use native.Mathlib.Nat.{add-zero}
 use native.Mathlib.Omega.{arith}
-use Rattle.reading.specs.Number.{be}
 use borrow.Author.Needs.{needs}
+use Rattle.reading.specs.Number.{be}
 use Rattle.reading.proofs.number.be16_inside.Statement.{statement}
 use Rattle.reading.proofs.number.be16_inside.Tie as tie
-use Rattle.reading.proofs.number.be16_inside.Reads as reads
-use Rattle.reading.proofs.number.be16_inside.Lts as lts
-use Rattle.reading.proofs.number.wide16.Reads as wide16-reads
 
--- src/number.rt:46:18
 shared-slice-read-wide16 : tie.Need-shared-slice-read-wide16
 shared-slice-read-wide16 c = search needs
 
--- src/number.rt:46:11
 wide16-requires : tie.Need-wide16-requires
 wide16-requires c κs = search needs
 
--- src/number.rt:46:5
 mul-result : tie.Need-mul-result
 mul-result c = search needs
 
--- src/number.rt:46:35
 add-wide16 : tie.Need-add-wide16
 add-wide16 c = search needs
 
--- src/number.rt:46:33
 shared-slice-read-wide16-2 : tie.Need-shared-slice-read-wide16-2
 shared-slice-read-wide16-2 c = search needs
 
--- src/number.rt:46:26
 wide16-requires-2 : tie.Need-wide16-requires-2
 wide16-requires-2 c κs = search needs
 
--- src/number.rt:46:5
 add-result : tie.Need-add-result
 add-result c = search needs
 
--- src/number.rt:42:1
 returns : tie.Need-returns
 unfolding be
 returns c = simp add-zero (omega arith)

@@ -1,72 +1,52 @@
 use native.Mathlib.Nat.{add-zero}
 use native.Mathlib.Omega.{arith}
-use Rattle.reading.specs.Number.{be}
 use borrow.Author.Needs.{needs}
+use Rattle.reading.specs.Number.{be}
 use Rattle.reading.proofs.number.be32_past.Statement.{statement}
 use Rattle.reading.proofs.number.be32_past.Tie as tie
-use Rattle.reading.proofs.number.be32_past.Reads as reads
-use Rattle.reading.proofs.number.be32_past.Lts as lts
-use Rattle.reading.proofs.number.byte_after.Reads as byte-after-reads
-use Rattle.reading.proofs.number.first.Reads as first-reads
-use Rattle.reading.proofs.number.wide32.Reads as wide32-reads
 
--- src/number.rt:82:23
 first-requires : tie.Need-first-requires
 first-requires c κs = search needs
 
--- src/number.rt:82:16
 wide32-requires : tie.Need-wide32-requires
 wide32-requires c κs = search needs
 
--- src/number.rt:82:5
 mul-result : tie.Need-mul-result
 mul-result c = search needs
 
--- src/number.rt:82:53
 byte-after-requires : tie.Need-byte-after-requires
 byte-after-requires c κs = search needs
 
--- src/number.rt:82:46
 wide32-requires-2 : tie.Need-wide32-requires-2
 wide32-requires-2 c κs = search needs
 
--- src/number.rt:82:38
 mul-result-2 : tie.Need-mul-result-2
 mul-result-2 c = search needs
 
--- src/number.rt:82:5
 add-result : tie.Need-add-result
 add-result c = search needs
 
--- src/number.rt:82:89
 byte-after-requires-2 : tie.Need-byte-after-requires-2
 byte-after-requires-2 c κs = search needs
 
--- src/number.rt:82:82
 wide32-requires-3 : tie.Need-wide32-requires-3
 wide32-requires-3 c κs = search needs
 
--- src/number.rt:82:76
 mul-result-3 : tie.Need-mul-result-3
 mul-result-3 c = search needs
 
--- src/number.rt:82:5
 add-result-2 : tie.Need-add-result-2
 add-result-2 c = search needs
 
--- src/number.rt:82:119
 byte-after-requires-3 : tie.Need-byte-after-requires-3
 byte-after-requires-3 c κs = search needs
 
--- src/number.rt:82:112
 wide32-requires-4 : tie.Need-wide32-requires-4
 wide32-requires-4 c κs = search needs
 
--- src/number.rt:82:5
 add-result-3 : tie.Need-add-result-3
 add-result-3 c = search needs
 
--- src/number.rt:79:1
 returns : tie.Need-returns
 unfolding be
 returns c = simp add-zero (omega arith)

@@ -1,41 +1,30 @@
 use native.Mathlib.Omega.{arith}
-use Rattle.reading.proofs.Width.{be-split}
 use borrow.Author.Needs.{needs}
+use Rattle.reading.proofs.Width.{be-split}
 use Rattle.reading.proofs.number.be64_inside.Statement.{statement}
 use Rattle.reading.proofs.number.be64_inside.Tie as tie
-use Rattle.reading.proofs.number.be64_inside.Reads as reads
-use Rattle.reading.proofs.number.be64_inside.Lts as lts
-use Rattle.reading.proofs.number.be32_inside.Reads as be32-inside-reads
 
--- src/number.rt:94:16
 be32-inside-requires : tie.Need-be32-inside-requires
 be32-inside-requires c κs = search needs
 
--- src/number.rt:94:16
 cast-high : tie.Need-cast-high
 cast-high c = search needs
 
--- src/number.rt:95:30
 add-be32-inside : tie.Need-add-be32-inside
 add-be32-inside c = search needs
 
--- src/number.rt:95:15
 be32-inside-requires-2 : tie.Need-be32-inside-requires-2
 be32-inside-requires-2 c κs = search needs
 
--- src/number.rt:95:15
 cast-low : tie.Need-cast-low
 cast-low c = search needs
 
--- src/number.rt:96:5
 mul-result : tie.Need-mul-result
 mul-result c = search needs
 
--- src/number.rt:96:5
 add-result : tie.Need-add-result
 add-result c = search needs
 
--- src/number.rt:90:1
 returns : tie.Need-returns
 returns c = rw (be-split 4 4) (omega arith)
 

@@ -1,4 +1,4 @@
-use mathlib.Core.Path.{refl, _≡_, _∙_, ap, sym}
+use mathlib.Core.Path.{refl, _∙_}
 use native.Mathlib.Omega.{arith}
 use mir.Syntax.{w32}
 use Rattle.reading.proofs.Bits.{cast-up, cast-down, bits-up, negative, minus, minus-fits, minus-is, of-bits, below-bits}

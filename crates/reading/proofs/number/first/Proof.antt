@@ -4,18 +4,13 @@ use lib.ListN.{List·getD-eq-default}
 use borrow.Author.Needs.{needs}
 use Rattle.reading.proofs.number.first.Statement.{statement}
 use Rattle.reading.proofs.number.first.Tie as tie
-use Rattle.reading.proofs.number.first.Reads as reads
-use Rattle.reading.proofs.number.first.Lts as lts
 
--- src/number.rt:23:16
 shared-slice-read-result : tie.Need-shared-slice-read-result
 shared-slice-read-result c = search needs
 
--- src/number.rt:23:9
 returns : tie.Need-returns
 returns c = search needs
 
--- src/number.rt:19:1
 returns-2 : tie.Need-returns-2
 returns-2 c = sym (List·getD-eq-default (c .before .args .s .now) 0 (omega arith))
 

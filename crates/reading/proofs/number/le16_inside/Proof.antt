@@ -1,42 +1,31 @@
 use native.Mathlib.Nat.{add-zero}
 use native.Mathlib.Omega.{arith}
-use Rattle.reading.specs.Number.{le}
 use borrow.Author.Needs.{needs}
+use Rattle.reading.specs.Number.{le}
 use Rattle.reading.proofs.number.le16_inside.Statement.{statement}
 use Rattle.reading.proofs.number.le16_inside.Tie as tie
-use Rattle.reading.proofs.number.le16_inside.Reads as reads
-use Rattle.reading.proofs.number.le16_inside.Lts as lts
-use Rattle.reading.proofs.number.wide16.Reads as wide16-reads
 
--- src/number.rt:117:12
 shared-slice-read-wide16 : tie.Need-shared-slice-read-wide16
 shared-slice-read-wide16 c = search needs
 
--- src/number.rt:117:5
 wide16-requires : tie.Need-wide16-requires
 wide16-requires c κs = search needs
 
--- src/number.rt:117:35
 add-wide16 : tie.Need-add-wide16
 add-wide16 c = search needs
 
--- src/number.rt:117:33
 shared-slice-read-wide16-2 : tie.Need-shared-slice-read-wide16-2
 shared-slice-read-wide16-2 c = search needs
 
--- src/number.rt:117:26
 wide16-requires-2 : tie.Need-wide16-requires-2
 wide16-requires-2 c κs = search needs
 
--- src/number.rt:117:20
 mul-result : tie.Need-mul-result
 mul-result c = search needs
 
--- src/number.rt:117:5
 add-result : tie.Need-add-result
 add-result c = search needs
 
--- src/number.rt:113:1
 returns : tie.Need-returns
 unfolding le
 returns c = simp add-zero (omega arith)

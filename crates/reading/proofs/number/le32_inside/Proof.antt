@@ -1,82 +1,61 @@
 use native.Mathlib.Nat.{add-zero}
 use native.Mathlib.Omega.{arith}
-use Rattle.reading.specs.Number.{le}
 use borrow.Author.Needs.{needs}
+use Rattle.reading.specs.Number.{le}
 use Rattle.reading.proofs.number.le32_inside.Statement.{statement}
 use Rattle.reading.proofs.number.le32_inside.Tie as tie
-use Rattle.reading.proofs.number.le32_inside.Reads as reads
-use Rattle.reading.proofs.number.le32_inside.Lts as lts
-use Rattle.reading.proofs.number.wide32.Reads as wide32-reads
 
--- src/number.rt:141:12
 shared-slice-read-wide32 : tie.Need-shared-slice-read-wide32
 shared-slice-read-wide32 c = search needs
 
--- src/number.rt:141:5
 wide32-requires : tie.Need-wide32-requires
 wide32-requires c κs = search needs
 
--- src/number.rt:141:35
 add-wide32 : tie.Need-add-wide32
 add-wide32 c = search needs
 
--- src/number.rt:141:33
 shared-slice-read-wide32-2 : tie.Need-shared-slice-read-wide32-2
 shared-slice-read-wide32-2 c = search needs
 
--- src/number.rt:141:26
 wide32-requires-2 : tie.Need-wide32-requires-2
 wide32-requires-2 c κs = search needs
 
--- src/number.rt:141:20
 mul-result : tie.Need-mul-result
 mul-result c = search needs
 
--- src/number.rt:141:5
 add-result : tie.Need-add-result
 add-result c = search needs
 
--- src/number.rt:141:62
 add-wide32-2 : tie.Need-add-wide32-2
 add-wide32-2 c = search needs
 
--- src/number.rt:141:60
 shared-slice-read-wide32-3 : tie.Need-shared-slice-read-wide32-3
 shared-slice-read-wide32-3 c = search needs
 
--- src/number.rt:141:53
 wide32-requires-3 : tie.Need-wide32-requires-3
 wide32-requires-3 c κs = search needs
 
--- src/number.rt:141:45
 mul-result-2 : tie.Need-mul-result-2
 mul-result-2 c = search needs
 
--- src/number.rt:141:5
 add-result-2 : tie.Need-add-result-2
 add-result-2 c = search needs
 
--- src/number.rt:141:92
 add-wide32-3 : tie.Need-add-wide32-3
 add-wide32-3 c = search needs
 
--- src/number.rt:141:90
 shared-slice-read-wide32-4 : tie.Need-shared-slice-read-wide32-4
 shared-slice-read-wide32-4 c = search needs
 
--- src/number.rt:141:83
 wide32-requires-4 : tie.Need-wide32-requires-4
 wide32-requires-4 c κs = search needs
 
--- src/number.rt:141:72
 mul-result-3 : tie.Need-mul-result-3
 mul-result-3 c = search needs
 
--- src/number.rt:141:5
 add-result-3 : tie.Need-add-result-3
 add-result-3 c = search needs
 
--- src/number.rt:137:1
 returns : tie.Need-returns
 unfolding le
 returns c = simp add-zero (omega arith)

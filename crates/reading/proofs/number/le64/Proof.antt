@@ -1,59 +1,43 @@
-use native.Mathlib.Omega.{arith}
 use mathlib.Core.Path.{sym}
-use Rattle.reading.proofs.Width.{le-past, le-split}
+use native.Mathlib.Omega.{arith}
 use borrow.Author.Needs.{needs}
+use Rattle.reading.proofs.Width.{le-past, le-split}
 use Rattle.reading.proofs.number.le64.Statement.{statement}
 use Rattle.reading.proofs.number.le64.Tie as tie
-use Rattle.reading.proofs.number.le64.Reads as reads
-use Rattle.reading.proofs.number.le64.Lts as lts
-use Rattle.reading.proofs.number.le32.Reads as le32-reads
-use Rattle.reading.proofs.number.le64_inside.Reads as le64-inside-reads
 
--- src/number.rt:174:9
 returns : tie.Need-returns
 returns c = sym (le-past 8 (c .before .before .args .p) (c .before .before .args .s .now) (omega arith))
 
--- src/number.rt:176:13
 sub-if2 : tie.Need-sub-if2
 sub-if2 c = search needs
 
--- src/number.rt:177:9
 le64-inside-requires : tie.Need-le64-inside-requires
 le64-inside-requires c κs = search needs
 
--- src/number.rt:177:9
 returns-2 : tie.Need-returns-2
 returns-2 c = search needs
 
--- src/number.rt:179:24
 add-le32 : tie.Need-add-le32
 add-le32 c = search needs
 
--- src/number.rt:179:16
 le32-requires : tie.Need-le32-requires
 le32-requires c κs = search needs
 
--- src/number.rt:179:16
 cast-high : tie.Need-cast-high
 cast-high c = search needs
 
--- src/number.rt:180:15
 le32-requires-2 : tie.Need-le32-requires-2
 le32-requires-2 c κs = search needs
 
--- src/number.rt:180:15
 cast-low : tie.Need-cast-low
 cast-low c = search needs
 
--- src/number.rt:181:5
 mul-result : tie.Need-mul-result
 mul-result c = search needs
 
--- src/number.rt:181:5
 add-result : tie.Need-add-result
 add-result c = search needs
 
--- src/number.rt:170:1
 returns-3 : tie.Need-returns-3
 returns-3 c = rw (le-split 4 4) (omega arith)
 

@@ -1,41 +1,30 @@
 use native.Mathlib.Omega.{arith}
-use Rattle.reading.proofs.Width.{le-split}
 use borrow.Author.Needs.{needs}
+use Rattle.reading.proofs.Width.{le-split}
 use Rattle.reading.proofs.number.le64_inside.Statement.{statement}
 use Rattle.reading.proofs.number.le64_inside.Tie as tie
-use Rattle.reading.proofs.number.le64_inside.Reads as reads
-use Rattle.reading.proofs.number.le64_inside.Lts as lts
-use Rattle.reading.proofs.number.le32_inside.Reads as le32-inside-reads
 
--- src/number.rt:165:31
 add-le32-inside : tie.Need-add-le32-inside
 add-le32-inside c = search needs
 
--- src/number.rt:165:16
 le32-inside-requires : tie.Need-le32-inside-requires
 le32-inside-requires c κs = search needs
 
--- src/number.rt:165:16
 cast-high : tie.Need-cast-high
 cast-high c = search needs
 
--- src/number.rt:166:15
 le32-inside-requires-2 : tie.Need-le32-inside-requires-2
 le32-inside-requires-2 c κs = search needs
 
--- src/number.rt:166:15
 cast-low : tie.Need-cast-low
 cast-low c = search needs
 
--- src/number.rt:167:5
 mul-result : tie.Need-mul-result
 mul-result c = search needs
 
--- src/number.rt:167:5
 add-result : tie.Need-add-result
 add-result c = search needs
 
--- src/number.rt:161:1
 returns : tie.Need-returns
 returns c = rw (le-split 4 4) (omega arith)
 

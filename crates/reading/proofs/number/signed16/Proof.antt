@@ -1,42 +1,34 @@
 use Prim.Native.Nat.{suc, _-_}
 use mathlib.Core.Path.{_≡_, ap}
+use native.Mathlib.Omega.{arith}
 use lib.IntN.{negsuc}
 use mir.Syntax.{w16}
-use native.Mathlib.Omega.{arith}
 use borrow.Author.Tests.{lt-ltb, le-ltb}
+use borrow.Author.Needs.{needs}
 use Rattle.reading.specs.Number.{signed}
 use Rattle.reading.proofs.Signs.{below-fits, below-is}
-use borrow.Author.Needs.{needs}
 use Rattle.reading.proofs.number.signed16.Statement.{statement}
 use Rattle.reading.proofs.number.signed16.Tie as tie
-use Rattle.reading.proofs.number.signed16.Reads as reads
-use Rattle.reading.proofs.number.signed16.Lts as lts
 
--- src/number.rt:200:16
 cast-result : tie.Need-cast-result
 cast-result c = search needs
 
--- src/number.rt:200:9
 returns : tie.Need-returns
 unfolding signed
 returns c = simp (lt-ltb _ _ (c .if1 .taken))
 
--- src/number.rt:202:13
 sub-y : tie.Need-sub-y
 sub-y c = search needs
 
--- src/number.rt:203:10
 cast-result-2 : tie.Need-cast-result-2
 cast-result-2 c = search needs
 
--- src/number.rt:203:5
 sub-result : tie.Need-sub-result
 sub-result c = below-fits w16 (65535 - c .before .args .x) (omega arith)
 
--- src/number.rt:196:1
 returns-2 : tie.Need-returns-2
 unfolding signed
-returns-2 c =     let e : 65535 - c .before .args .x ≡ 65536 - suc (c .before .args .x) = omega arith in
+returns-2 c = let e : 65535 - c .before .args .x ≡ 65536 - suc (c .before .args .x) = omega arith in
     simp (le-ltb _ _ (c .if1 .left), below-is w16 (65535 - c .before .args .x) (omega arith)) (ap negsuc e)
 
 pub signed16-spec : {M : Type 1} → statement M

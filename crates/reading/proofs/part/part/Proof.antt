@@ -1,67 +1,51 @@
-use lib.ListN.{length}
 use Prim.Native.Nat.{_+_}
-use borrow.Author.Tests.{le-leb, lt-leb}
 use native.Mathlib.Nat.{add-sub-cancel-left}
 use native.Mathlib.Omega.{arith}
+use lib.ListN.{length}
+use borrow.Author.Tests.{le-leb, lt-leb}
 use borrow.Author.Needs.{needs}
 use Rattle.reading.proofs.part.part.Statement.{statement}
 use Rattle.reading.proofs.part.part.Tie as tie
-use Rattle.reading.proofs.part.part.Reads as reads
-use Rattle.reading.proofs.part.part.Lts as lts
 
--- src/part.rt:10:16
 sub-result : tie.Need-sub-result
 sub-result c = search needs
 
--- src/part.rt:10:16
 part-result-start : tie.Need-part-result-start
 part-result-start c = search needs
 
--- src/part.rt:10:16
 part-result-end : tie.Need-part-result-end
 part-result-end c = search needs
 
--- src/part.rt:10:9
 returns : tie.Need-returns
 returns c = rw (lt-leb (c .before .before .args .a + c .before .before .args .n) (length (c .before .before .args .s .now)) (omega arith))
 
--- src/part.rt:12:8
 sub-if2 : tie.Need-sub-if2
 sub-if2 c = search needs
 
--- src/part.rt:13:16
 sub-result-2 : tie.Need-sub-result-2
 sub-result-2 c = search needs
 
--- src/part.rt:13:16
 part-result-start-2 : tie.Need-part-result-start-2
 part-result-start-2 c = search needs
 
--- src/part.rt:13:16
 part-result-end-2 : tie.Need-part-result-end-2
 part-result-end-2 c = search needs
 
--- src/part.rt:13:9
 returns-2 : tie.Need-returns-2
 returns-2 c = rw (lt-leb (c .before .before .before .args .a + c .before .before .before .args .n) (length (c .before .before .before .args .s .now)) (omega arith))
 
--- src/part.rt:15:13
 add-e : tie.Need-add-e
 add-e c = search needs
 
--- src/part.rt:16:5
 sub-result-3 : tie.Need-sub-result-3
 sub-result-3 c = search needs
 
--- src/part.rt:16:5
 part-result-start-3 : tie.Need-part-result-start-3
 part-result-start-3 c = search needs
 
--- src/part.rt:16:5
 part-result-end-3 : tie.Need-part-result-end-3
 part-result-end-3 c = search needs
 
--- src/part.rt:6:1
 returns-3 : tie.Need-returns-3
 returns-3 c = rw (le-leb (c .before .before .before .args .a + c .before .before .before .args .n) (length (c .before .before .before .args .s .now)) (omega arith), add-sub-cancel-left)
 
