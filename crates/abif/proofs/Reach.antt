@@ -23,7 +23,7 @@ use Rattle.abif.specs.declared.entry.ElementType.the-variants.{Listed, R
 use Rattle.abif.specs.Entry.{entryOf, dataOffset, typeOf, listedCheck, rawCheck, sizesCheck, placeCheck, entryCheck}
 use Rattle.abif.specs.Directory.{Directory, headerCheck, boundsCheck, directory, opening}
 use Rattle.abif.specs.Judge.{judgeEntry, judgeEntries, judging}
-use Rattle.abif.specs.Lookup.{firstTag, lookupIn, lookingUp}
+use Rattle.abif.specs.Lookup.{firstTag, itemOf, lookupIn, lookingUp}
 use Rattle.abif.specs.Element.{dateAt, timeAt, valueAt, elementOf, elementReading}
 use Rattle.abif.specs.Numbers.{numbersOf, numbersReading}
 use Rattle.abif.specs.Text.{pString, cString, textOf, textReading}
@@ -130,7 +130,7 @@ unfolding opening
 opening-under s x w = reach-under x _ _ s (directory-under s x w) (λ d e. reach-done-under x _ s)
 
 pub lookup-under : (a b : ℕ) (s : List ℕ) (x : ℕ) → answer judging s ≡ ok x → reach (lookingUp a b) s ≤ x
-unfolding judging lookingUp lookupIn holds
+unfolding judging lookingUp lookupIn itemOf holds
 lookup-under a b s x w =
     let v = bind-ok directory _ s x w in
     let f = directory-reach s (v .0) (v .1) in

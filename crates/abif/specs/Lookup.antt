@@ -25,6 +25,12 @@ firstTag h p a b (suc n) i = pick (hasTag (entryOf h (p + 28 * i)) a b) i (first
 unfoldable pub dataOf : Entry → ItemData
 dataOf d = record { start = pick (leb (d .«data_size») 4) (d .place + 20) (d .«data_offset»); size = d .«data_size»; «element_type» = d .«element_type»; count = d .«element_count» }
 
+-- an entry's checks, then its data
+unfoldable pub itemOf : Entry → Check ItemData
+itemOf d = do
+  _ ← entryCheck d
+  done (dataOf d)
+
 -- lookup in a directory: no entry 7, two or more 8, then that entry's checks
 unfoldable pub lookupIn : List ℕ → ℕ → ℕ → ℕ → ℕ → Check ItemData
 lookupIn h p n a b =
@@ -32,8 +38,7 @@ lookupIn h p n a b =
     do
       provided (ltb i n) 7
       provided (eqb (firstTag h p a b (n - (i + 1)) (i + 1)) n) 8
-      _ ← entryCheck (entryOf h (p + 28 * i))
-      done (dataOf (entryOf h (p + 28 * i)))
+      itemOf (entryOf h (p + 28 * i))
 
 unfoldable pub lookingUp : ℕ → ℕ → Check ItemData
 lookingUp a b = do

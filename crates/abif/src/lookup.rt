@@ -1,17 +1,18 @@
 // Lookup of a tag, by its name and number.
 use crate::directory::Opened;
 use crate::directory::open;
+use crate::entry::Entry;
 use crate::entry::Item;
 use crate::entry::entry_at;
 use crate::entry::entry_tests;
 use crate::entry::has_tag;
 use reading::part::part;
 ghost use mathlib.Core.Path.{_≡_};
-ghost use Prim.Native.Nat.{_+_, _-_, _*_, _≤_};
+ghost use Prim.Native.Nat.{_+_, _-_, _*_, _≤_, _<_};
 ghost use lib.ListN.{length};
 ghost use Rattle.reading.specs.Check.{answer, mapAnswer};
 ghost use Rattle.reading.specs.Part.{shown, handedBack};
-ghost use Rattle.abif.specs.Lookup.{firstTag, lookupIn, lookingUp, found, dataSpan};
+ghost use Rattle.abif.specs.Lookup.{firstTag, dataOf, itemOf, lookupIn, lookingUp, found, dataSpan};
 
 // An item's data: where they stand, with the type and the count.
 pub struct ItemData {
@@ -41,6 +42,38 @@ fn first_tag(h: &[u8], p: usize, name: u32, number: u32, from: usize, n: usize) 
     i
 }
 
+// Data of 4 bytes or fewer are the first bytes of the entry's own offset field.
+fn data_of(d: Entry) -> ItemData
+    requires { ⌜ d .place < 0x8000000000000000 ⌝ }
+    ensures { λ r. ⌜ r ≡ dataOf d ⌝ }
+{
+    if d.data_size <= 4 {
+        return ItemData {
+            start: d.place + 20,
+            size: d.data_size as usize,
+            element_type: d.element_type,
+            count: d.element_count,
+        };
+    }
+    ItemData {
+        start: d.data_offset as usize,
+        size: d.data_size as usize,
+        element_type: d.element_type,
+        count: d.element_count,
+    }
+}
+
+fn item_of(s: &[u8], d: Entry) -> Found
+    requires { ⌜ d .place < 0x8000000000000000 ⌝ }
+    ensures { λ r. ⌜ found r ≡ answer (itemOf d) (now (s .entry)) ⌝ }
+{
+    match entry_tests(s, d) {
+        Item::Bad(t) => Found::Refused(t.number),
+        Item::Short(_, _) => Found::Refused(1),
+        Item::End(_) => Found::Data(data_of(d)),
+    }
+}
+
 fn lookup_in(s: &[u8], h: &[u8], p: usize, n: usize, name: u32, number: u32) -> Found
     requires { ⌜ p + 28 * n ≤ length (now h) ⌝ }
     ensures { λ r. ⌜ found r ≡ answer (lookupIn (now (h .entry)) p n name number) (now (s .entry)) ⌝ }
@@ -53,26 +86,7 @@ fn lookup_in(s: &[u8], h: &[u8], p: usize, n: usize, name: u32, number: u32) -> 
     if j != n {
         return Found::Refused(8);
     }
-    let q = p + 28 * i;
-    let d = entry_at(h, q);
-    match entry_tests(s, d) {
-        Item::Bad(t) => Found::Refused(t.number),
-        Item::Short(_, _) => Found::Refused(1),
-        Item::End(_) => {
-            let size = d.data_size as usize;
-            let start = if size <= 4 {
-                q + 20
-            } else {
-                d.data_offset as usize
-            };
-            Found::Data(ItemData {
-                start,
-                size,
-                element_type: d.element_type,
-                count: d.element_count,
-            })
-        }
-    }
+    item_of(s, entry_at(h, p + 28 * i))
 }
 
 // The item with the tag of this name and number, which is given by its 32 bits.
@@ -92,7 +106,7 @@ pub fn lookup(s: &[u8], name: u32, number: u32) -> Found
 }
 
 // The data of a tag, as a part of the caller's bytes; the empty part at their start where lookup refuses.
-pub fn data_of(s: &[u8], name: u32, number: u32) -> &[u8]
+pub fn data_part(s: &[u8], name: u32, number: u32) -> &[u8]
     ensures { λ r. ⌜ shown r ≡ handedBack (shown (s .entry)) (mapAnswer dataSpan (answer (lookingUp name number) (now (s .entry)))) ⌝ }
 {
     match lookup(s, name, number) {
