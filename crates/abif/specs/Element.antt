@@ -104,7 +104,7 @@ elementReading a b i = do
   q ← lookingUp a b
   elementOf q i
 
--- the paper's answer that each case stands for
+-- the answer of document 01 that each case stands for
 abbrev pub element : Element → Answer Value
 element (Whole z) = ok (whole z)
 element (Single f n) = ok (single f n)

@@ -31,7 +31,7 @@ entryReading i = do
   provided (isElement i (d .count)) 7
   done (rawEntry (d .upTo) (d .place + 28 * (i - 1)))
 
--- the paper's answer that each case stands for
+-- the answer of document 01 that each case stands for
 abbrev pub listed : Listed → Answer RawEntry
 listed (At d) = ok d
 listed (Refused n) = refused n 0

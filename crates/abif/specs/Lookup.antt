@@ -45,7 +45,7 @@ lookingUp a b = do
   d ← directory
   lookupIn (d .upTo) (d .place) (d .count) a b
 
--- the paper's answer that each case stands for
+-- the answer of document 01 that each case stands for
 abbrev pub found : Found → Answer ItemData
 found (Data q) = ok q
 found (Refused n) = refused n 0

@@ -40,7 +40,7 @@ numbersReading a b first room = do
   q ← lookingUp a b
   numbersOf q first room
 
--- the paper's answer that each case stands for
+-- the answer of document 01 that each case stands for
 abbrev pub copied : Copied → Answer ℕ
 copied (Count n) = ok n
 copied (Refused n) = refused n 0

@@ -47,7 +47,7 @@ textReading a b = do
   q ← lookingUp a b
   textOf q
 
--- the paper's answer that each case stands for
+-- the answer of document 01 that each case stands for
 abbrev pub text : Text → Answer Span
 text (At a n) = ok (record { start = a; size = n })
 text (Refused n) = refused n 0

@@ -213,6 +213,13 @@ fn sizes_tests(k: ElementType, d: Entry) -> Tested
     }
 }
 
+// The end of data of this size from this offset on: exact, for no sum of two 32-bit numbers fills 64 bits.
+fn end_of(offset: u32, size: u32) -> usize
+    ensures { λ r. ⌜ r ≡ offset + size ⌝ }
+{
+    offset as usize + size as usize
+}
+
 fn place_tests(s: &[u8], d: Entry) -> Item
     requires { ⌜ d .place < 0x8000000000000000 ⌝ }
     ensures { λ r. ⌜ item r ≡ run (placeCheck d) (now (s .entry)) ⌝ }
@@ -241,7 +248,7 @@ fn place_tests(s: &[u8], d: Entry) -> Item
         });
     }
     let start = d.data_offset as usize;
-    let end = start + d.data_size as usize;
+    let end = end_of(d.data_offset, d.data_size);
     if s.len() < end {
         return Item::Short(start, end);
     }

@@ -1,4 +1,4 @@
--- The struct that each answer of the paper is for a C program.
+-- The struct that each answer of document 01 is for a C program.
 -- Assumes nothing.
 use Prim.Native.Nat.{ℕ}
 use Rattle.reading.specs.Check.{Answer, ok, refused}

@@ -1,4 +1,4 @@
--- A reading call as a tree of checks, in the paper's order. A check is its own explanation: the field, what is required of it, and the refusal.
+-- A reading call as a tree of checks, in document 01's order. A check is its own explanation: the field, what is required of it, and the refusal.
 -- Assumes nothing.
 use Prim.Native.Nat.{ℕ, max}
 use mathlib.Core.List.{List}

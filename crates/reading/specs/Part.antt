@@ -1,4 +1,4 @@
--- A part of lent bytes: where it starts (a block of memory and an offset in it), and its bytes.
+-- A part of lent bytes, document 01's term for a stretch of them: where it starts (a block of memory and an offset in it), and its bytes.
 -- Assumes nothing.
 use Prim.Native.Nat.{ℕ, _+_}
 use mathlib.Core.List.{List}
