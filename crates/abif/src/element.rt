@@ -10,6 +10,7 @@ use reading::number::be16;
 use reading::number::be32;
 use reading::number::be64;
 use reading::number::byte;
+use reading::number::signed_pair;
 use reading::number::signed8;
 use reading::number::signed16;
 use reading::number::signed32;
@@ -79,7 +80,8 @@ pub(crate) fn whole_at(l: &[u8], code: u16, p: usize) -> i64
         }
         4 => {
             let end = p + 2;
-            signed16(be16(&l[p..end], 0)) as i64
+            let x = &l[p..end];
+            signed_pair(byte(x, 0), byte(x, 1))
         }
         5 => {
             let end = p + 4;

@@ -7,6 +7,7 @@ pub mod Fill
 pub mod Parts
 pub mod Product
 pub mod Signs
+pub mod Pair
 pub mod Bits
 pub mod Signed
 pub mod Floats

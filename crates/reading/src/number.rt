@@ -1,6 +1,6 @@
 // Numbers in lent bytes. A byte past the end reads as 0, so that every call has an answer at every place.
 ghost use mathlib.Core.Path.{_≡_};
-ghost use Prim.Native.Nat.{_+_, _≤_, _<_};
+ghost use Prim.Native.Nat.{_+_, _*_, _≤_, _<_};
 ghost use lib.ListN.{length, getD};
 ghost use Rattle.reading.specs.Number.{be, le, signed, bits};
 
@@ -224,6 +224,13 @@ pub fn signed32(x: u32) -> i32
     }
     let y = 0xffff_ffff - x;
     -1 - y as i32
+}
+
+// The signed number of two bytes. It is made with no test of the sign, so a loop over this is fast.
+pub fn signed_pair(high: u8, low: u8) -> i64
+    ensures { λ r. ⌜ r ≡ signed 2 (256 * high + low) ⌝ }
+{
+    256 * signed8(high) as i64 + low as i64
 }
 
 // The 32 bits of the signed number x.

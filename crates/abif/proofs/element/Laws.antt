@@ -13,7 +13,7 @@ use native.Mathlib.Omega.{arith}
 use borrow.Author.Tests.{ne-eqb}
 use Rattle.reading.specs.Number.{be, signed}
 use Rattle.reading.specs.Check.{ok, refused, answer, holds}
-use Rattle.reading.proofs.Width.{be-part}
+use Rattle.reading.proofs.Width.{be-part, be-split}
 use Rattle.reading.proofs.Steps.{answer-bind, answer-must, answer-need-present}
 use Rattle.abif.specs.declared.entry.ElementType.the-variants.{Listed}
 use Rattle.abif.specs.declared.lookup.ItemData.{ItemData}
@@ -23,6 +23,11 @@ use Rattle.abif.specs.Element.{single, double, thumb, bool, whole, whole
 -- a number read from a part that it fills
 pub read-part : (w p : ℕ) (l : List ℕ) (r : ℕ) → r ≡ be w (take (p + w - p) (drop p l)) 0 → r ≡ be w l p
 read-part w p l r e = e ∙ rw add-sub-cancel-left (be-part w p l)
+
+pub read-pair : (p : ℕ) (l : List ℕ) (a b : ℕ) → a ≡ be 1 (take (p + 2 - p) (drop p l)) 0 → b ≡ be 1 (take (p + 2 - p) (drop p l)) 1 → 256 * a + b ≡ be 2 l p
+read-pair p l a b e f =
+    let s = be-split 1 1 (take (p + 2 - p) (drop p l)) 0 in
+    read-part 2 p l (256 * a + b) (omega arith)
 
 -- an element lies within the elements
 pub inside : (w i n : ℕ) → 1 ≤ i → i ≤ n → w * (i - 1) + w ≤ w * n
