@@ -21,7 +21,7 @@ pub enum Opened {
 }
 
 // The same, with the reason: the first test that fails, or the bytes that are missing, by their start and end.
-pub enum Header {
+pub(crate) enum Header {
     Good { place: u32, count: u32 },
     Bad(Test),
     Short(usize, usize),

@@ -14,7 +14,7 @@ ghost use Rattle.reading.specs.Explain.{tested};
 ghost use Rattle.abif.specs.Entry.{entryOf, hasTag, typeOf, listedCheck, rawCheck, sizesCheck, placeCheck, entryCheck, item};
 
 // A directory entry with its place; a signed field as its unsigned number.
-pub struct Entry {
+pub(crate) struct Entry {
     pub place: usize,
     pub name: u32,
     pub number: u32,
@@ -26,7 +26,7 @@ pub struct Entry {
 }
 
 // What an element type is: listed with its element size, raw bytes, or not handled.
-pub enum ElementType {
+pub(crate) enum ElementType {
     Listed(u16),
     Raw,
     Unknown,
@@ -34,7 +34,7 @@ pub enum ElementType {
 
 // What an entry's checks find: the end of its data (0 for data in the entry), the first test that fails, or the bytes that are missing, by
 // their start and end.
-pub enum Item {
+pub(crate) enum Item {
     End(usize),
     Bad(Test),
     Short(usize, usize),
@@ -67,7 +67,7 @@ pub(crate) fn has_tag(h: &[u8], p: usize, name: u32, number: u32) -> bool
     false
 }
 
-pub fn type_of(k: u16) -> ElementType
+pub(crate) fn type_of(k: u16) -> ElementType
     ensures { λ r. ⌜ r ≡ typeOf k ⌝ }
 {
     match k {

@@ -1,42 +1,21 @@
 -- Numbers of w bytes, big-endian and little-endian alike: the laws are of `number`, over the width.
 -- Assumes nothing.
-use Prim.Native.Nat.{ℕ, zero, suc, _+_, _-_, _*_, _/_, _%_, _^_, _<_, _≤_}
+use Prim.Native.Nat.{ℕ, zero, suc, _+_, _-_, _*_, _^_, _<_, _≤_}
 use mathlib.Core.Path.{_≡_, refl, _∙_, ap}
 use mathlib.Core.List.{List}
 use native.Mathlib.Omega.{arith}
-use native.Mathlib.Nat.{add-zero, add-suc, add-assoc, add-mul, mul-assoc, mul-comm, mul-le-mul-right, pow-suc, pow-succ'}
-use lib.Arith.{mod-mul}
-use lib.Dec.{lit<}
+use native.Mathlib.Nat.{add-zero, add-suc, add-assoc, add-mul, mul-assoc, mul-comm}
 use lib.ListN.{length, take, drop, getD, List·getD-eq-default}
 use lib.Pow.{pow-add}
 use lib.Seq.{getD-take, getD-drop}
 use Rattle.reading.specs.Number.{number, be, le}
 
--- a number of w bytes is below 256 ^ w
-pub number-below : (w : ℕ) (d : ℕ → ℕ) → ((i : ℕ) → d i < 256) → number w d < 256 ^ w
-number-below zero d h = omega arith
-number-below (suc w) d h =
-    let ih : number w d < 256 ^ w = number-below w d h in
-    let b : d w ≤ 255 = omega (arith, h w) in
-    let m : d w * 256 ^ w ≤ 255 * 256 ^ w = mul-le-mul-right (256 ^ w) b in
-    omega (arith, pow-suc 256 w)
-
--- it is made of its w bytes
+-- a number is made of its w bytes
 pub number-same : (w : ℕ) (d e : ℕ → ℕ) → ((i : ℕ) → i < w → d i ≡ e i) → number w d ≡ number w e
 number-same zero d e h = refl
 number-same (suc w) d e h = rw (number-same w d e (λ i q. h i (omega arith)), h w (omega arith))
 
--- so a number that lies within the first m bytes is the same in them
-module _ (m w p : ℕ) (s : List ℕ) (q : p + w ≤ m) where
-  pub be-take : be w (take m s) p ≡ be w s p
-  unfolding be
-  be-take = number-same w _ _ (λ i h. getD-take m s (p + (w - suc i)) 0 (omega arith))
-
-  pub le-take : le w (take m s) p ≡ le w s p
-  unfolding le
-  le-take = number-same w _ _ (λ i h. getD-take m s (p + i) 0 (omega arith))
-
--- and a number that fills a part of the bytes is the one that stands there
+-- so a number that fills a part of the bytes is the one that stands there
 module _ (w p : ℕ) (s : List ℕ) where
   pub be-part : be w (take w (drop p s)) 0 ≡ be w s p
   unfolding be
@@ -79,14 +58,3 @@ module _ (v w : ℕ) (s : List ℕ) (p : ℕ) where
   pub le-split : le (v + w) s p ≡ le v s p + le w s (p + v) * 256 ^ v
   unfolding le
   le-split = number-split v w _ ∙ simp add-assoc
-
-pow-pos′ : (w : ℕ) → 0 < 256 ^ w
-pow-pos′ zero = omega arith
-pow-pos′ (suc w) =
-    let p : 0 < 256 ^ w = pow-pos′ w in
-    omega (arith, pow-suc 256 w)
-
--- the number made of a number's bytes
-pub number-of : (w n : ℕ) → number w (λ i. n / 256 ^ i % 256) ≡ n % 256 ^ w
-number-of zero n = omega arith
-number-of (suc w) n = rw (number-of w n, pow-succ' 256 w, mod-mul n {m = 256} {c = 256 ^ w} (lit< tt) (pow-pos′ w)) (omega arith)

@@ -81,15 +81,6 @@ module _ (q : ItemData) (s : List ℕ) where
     unfolding textOf holds
     text-c t u = simp (answer-bind, answer-must, le-leb 1 (q .size) h, answer-need-present (q .start) (q .start + q .size) s f, ne-eqb (q .«element_type») 18 t, eq-eqb (q .«element_type») 19 u)
 
-module _ (s : List ℕ) (a b : ℕ) where
-  pub reading-refused : (n : ℕ) → answer (lookingUp a b) s ≡ refused n 0 → refused n 0 ≡ answer (textReading a b) s
-  unfolding textReading
-  reading-refused n h = simp (answer-bind, h)
-
-  pub reading-found : (q : ItemData) → answer (lookingUp a b) s ≡ ok q → answer (textOf q) s ≡ answer (textReading a b) s
-  unfolding textReading
-  reading-found q h = simp (answer-bind, h)
-
 -- where a text lies: within its item
 module _ (q : ItemData) (l s : List ℕ) (r : Span) (h : 1 ≤ q .size) where
   p-fits : answer (pString q l) s ≡ ok r → r .start + r .size ≤ q .start + q .size

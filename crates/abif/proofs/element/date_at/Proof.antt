@@ -1,9 +1,7 @@
-use mathlib.Core.Path.{_≡_, _∙_, ap}
 use mir.Syntax.{w16}
-use mir.Val.{toZ, ofZ}
 use borrow.Author.Needs.{needs}
-use Rattle.reading.specs.Number.{be, signed}
 use Rattle.reading.specs.Check.{answer}
+use Rattle.reading.proofs.Signs.{field-is}
 use Rattle.reading.proofs.Tests.{tests}
 use Rattle.abif.specs.Element.{dateAt}
 use Rattle.abif.proofs.element.date_at.Statement.{statement}
@@ -45,11 +43,10 @@ returns-4 c s = search (tests, ← c .before .before .before .before .byte2 .ens
 
 returns-5 : tie.Need-returns-5
 unfolding dateAt answer
-returns-5 c s = let a = c .before .before .before .before in
+returns-5 c s =
+    let a = c .before .before .before .before in
     let y = a .before .before in
-    let g = y .before .before .before .args in
-    let f : toZ w16 (ofZ w16 (y .signed16 .result)) ≡ y .signed16 .result = search needs in
-    let e : toZ w16 (ofZ w16 (y .signed16 .result)) ≡ signed 2 (be 2 (g .l .now) (g .p)) = f ∙ y .signed16 .ensures ∙ ap (signed 2) (y .before .be16 .ensures) in
+    let e = field-is w16 2 _ _ _ (y .signed16 .ok) (y .signed16 .ensures) (y .before .be16 .ensures) in
     search (tests, ← a .byte2 .ensures, ← a .before .byte .ensures, e)
 
 pub date-at-spec : {M : Type 1} → statement M

@@ -24,12 +24,14 @@ returns : tie.Need-returns
 returns c = search needs
 
 returns-2 : tie.Need-returns-2
-returns-2 c = let t = c .before .before in
+returns-2 c =
+    let t = c .before .before in
     let g = t .before .before .args in
     of-raw (g .s .now) (g .q) (g .index) (ap listed (sym (t .type-of .ensures) ∙ c .enum-told .given .1))
 
 returns-3 : tie.Need-returns-3
-returns-3 c = let t = c .before .before in
+returns-3 c =
+    let t = c .before .before in
     let g = t .before .before .args in
     of-raw (g .s .now) (g .q) (g .index) (ap listed (sym (t .type-of .ensures) ∙ c .enum-told2 .given .1))
 

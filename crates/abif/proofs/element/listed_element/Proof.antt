@@ -12,14 +12,16 @@ use Rattle.abif.proofs.element.listed_element.Statement.{statement}
 use Rattle.abif.proofs.element.listed_element.Tie as tie
 
 returns : tie.Need-returns
-returns c = let g = c .before .before .args in
+returns c =
+    let g = c .before .before .args in
     of-none (g .s .now) (g .q) (g .index) (g .w) (c .before .before .pre .1) (rw (lt-leb 1 (g .index) (c .if1 .taken)))
 
 cast-if2 : tie.Need-cast-if2
 cast-if2 c = search needs
 
 returns-2 : tie.Need-returns-2
-returns-2 c = let g = c .before .before .before .before .args in
+returns-2 c =
+    let g = c .before .before .before .before .args in
     of-none (g .s .now) (g .q) (g .index) (g .w) (c .before .before .before .before .pre .1) (rw (le-leb 1 (g .index) (omega arith), lt-leb (g .index) (g .q .count) (omega arith)))
 
 add-end : tie.Need-add-end
@@ -45,7 +47,8 @@ value-at-requires c κs = let z = c .before .before .before .before .before .bef
     (omega arith, rw (z .pre .1) (simp length-take (omega arith)))
 
 returns-3 : tie.Need-returns-3
-returns-3 c = let g = c .before .before .before .before .before .before .before .before .args in
+returns-3 c =
+    let g = c .before .before .before .before .before .before .before .before .args in
     let f : isElement (g .index) (g .q .count) ≡ true = rw (le-leb 1 (g .index) (omega arith), le-leb (g .index) (g .q .count) (omega arith)) in
     c .value-at .ensures (g .s .now) ∙ of-value (g .s .now) (g .q) (g .index) (g .w) (c .before .before .before .before .before .before .before .before .pre .1) f (omega arith)
 

@@ -23,13 +23,15 @@ element-of-requires c κs = let o = c .before .before .before in
 
 returns : tie.Need-returns
 unfolding elementReading
-returns c = let o = c .before .before .before in
+returns c =
+    let o = c .before .before .before in
     let g = o .before .before .args in
     bind-refused (lookingUp (g .name) (g .number)) (λ q. elementOf q (g .index)) (g .s .now) _ 0 (sym (o .lookup .ensures) ∙ ap found (c .before .n .given .1))
 
 returns-2 : tie.Need-returns-2
 unfolding elementReading
-returns-2 c = let o = c .before .before .before .before in
+returns-2 c =
+    let o = c .before .before .before .before in
     let g = o .before .before .args in
     c .element-of .ensures ∙ bind-answered (lookingUp (g .name) (g .number)) (λ q. elementOf q (g .index)) (g .s .now) _ (sym (o .lookup .ensures) ∙ ap found (c .before .before .q .given .1))
 

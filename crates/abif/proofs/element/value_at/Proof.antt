@@ -3,6 +3,7 @@ use native.Mathlib.Omega.{arith}
 use mir.Syntax.{w32, w64}
 use mir.Val.{toZ, ofZ}
 use borrow.Author.Needs.{needs}
+use Rattle.reading.proofs.Signs.{field-is}
 use Rattle.abif.proofs.element.Laws.{value-single, value-double, value-date, value-time, value-thumb, value-bool, value-whole}
 use Rattle.abif.proofs.element.value_at.Statement.{statement}
 use Rattle.abif.proofs.element.value_at.Tie as tie
@@ -59,36 +60,43 @@ whole-at-requires : tie.Need-whole-at-requires
 whole-at-requires c κs = search needs
 
 returns : tie.Need-returns
-returns c s = let g = c .before .before .before .before .args in
+returns c s =
+    let g = c .before .before .before .before .args in
     rw (c .single .ensures, c .before .be32 .ensures) (value-single (g .l .now) (g .p) (g .code) s (c .before .before .match .keys1))
 
 returns-2 : tie.Need-returns-2
-returns-2 c s = let g = c .before .before .before .before .args in
+returns-2 c s =
+    let g = c .before .before .before .before .args in
     rw (c .double .ensures, c .before .be64 .ensures) (value-double (g .l .now) (g .p) (g .code) s (c .before .before .match .keys2))
 
 returns-3 : tie.Need-returns-3
-returns-3 c s = let g = c .before .before .before .args in
+returns-3 c s =
+    let g = c .before .before .before .args in
     c .date-at .ensures s ∙ value-date (g .l .now) (g .p) (g .code) s (c .before .match .keys3)
 
 returns-4 : tie.Need-returns-4
-returns-4 c s = let g = c .before .before .before .args in
+returns-4 c s =
+    let g = c .before .before .before .args in
     c .time-at .ensures s ∙ value-time (g .l .now) (g .p) (g .code) s (c .before .match .keys4)
 
 returns-5 : tie.Need-returns-5
-returns-5 c s = let b = c .before in
+returns-5 c s =
+    let b = c .before in
     let u = b .before in
     let d = u .before .before in
     let g = d .before .before .before .before .args in
-    let f : toZ w32 (ofZ w32 (d .signed32 .result)) ≡ d .signed32 .result = search needs in
-    let h : toZ w32 (ofZ w32 (u .signed322 .result)) ≡ u .signed322 .result = search needs in
-    rw (f, h, d .signed32 .ensures, u .signed322 .ensures, d .before .be322 .ensures, u .before .be323 .ensures, b .byte .ensures, c .byte2 .ensures) (value-thumb (g .l .now) (g .p) (g .code) s (d .before .before .match .keys5))
+    let f = field-is w32 4 _ _ _ (d .signed32 .ok) (d .signed32 .ensures) (d .before .be322 .ensures) in
+    let h = field-is w32 4 _ _ _ (u .signed322 .ok) (u .signed322 .ensures) (u .before .be323 .ensures) in
+    rw (f, h, b .byte .ensures, c .byte2 .ensures) (value-thumb (g .l .now) (g .p) (g .code) s (d .before .before .match .keys5))
 
 returns-6 : tie.Need-returns-6
-returns-6 c s = let g = c .before .before .before .args in
+returns-6 c s =
+    let g = c .before .before .before .args in
     rw (c .byte3 .ensures) (value-bool (g .l .now) (g .p) (g .code) s (c .before .match .keys6))
 
 returns-7 : tie.Need-returns-7
-returns-7 c s = let g = c .before .before .before .args in
+returns-7 c s =
+    let g = c .before .before .before .args in
     let f : toZ w64 (ofZ w64 (c .whole-at .result)) ≡ c .whole-at .result = search needs in
     rw (f, c .whole-at .ensures) (value-whole (g .l .now) (g .p) (g .code) s (λ e. omega arith) (λ e. omega arith) (λ e. omega arith) (λ e. omega arith) (λ e. omega arith) (λ e. omega arith))
 

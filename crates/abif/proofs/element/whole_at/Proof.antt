@@ -4,201 +4,158 @@ use lib.IntN.{pos}
 use mir.Syntax.{w8, w32, w64}
 use mir.Val.{toZ, ofZ}
 use mir.Facts.{toZ-pos}
+use borrow.Author.Needs.{needs}
 use Rattle.reading.specs.Number.{signed}
 use Rattle.reading.proofs.Signs.{widened-fits, widened}
 use Rattle.abif.specs.Entry.{typeOf}
 use Rattle.abif.proofs.element.Laws.{read-part, read-pair, whole-one, whole-char, whole-word, whole-short, whole-long, whole-byte}
-use borrow.Author.Needs.{needs}
 use Rattle.abif.proofs.element.whole_at.Statement.{statement}
 use Rattle.abif.proofs.element.whole_at.Tie as tie
-use Rattle.abif.proofs.element.whole_at.Reads as reads
-use Rattle.abif.proofs.element.whole_at.Lts as lts
-use Rattle.reading.proofs.number.be16.Reads as be16-reads
-use Rattle.reading.proofs.number.be32.Reads as be32-reads
-use Rattle.reading.proofs.number.byte.Reads as byte-reads
-use Rattle.reading.proofs.number.signed32.Reads as signed32-reads
-use Rattle.reading.proofs.number.signed8.Reads as signed8-reads
-use Rattle.reading.proofs.number.signed_pair.Reads as signed-pair-reads
 
--- src/element.rt:70:23
 add-end : tie.Need-add-end
 add-end c = search needs
 
--- src/element.rt:71:18
 sub-byte : tie.Need-sub-byte
 sub-byte c = search needs
 
--- src/element.rt:71:18
 part-byte-start : tie.Need-part-byte-start
 part-byte-start c = search needs
 
--- src/element.rt:71:18
 part-byte-end : tie.Need-part-byte-end
 unfolding typeOf
 part-byte-end c = rw (c .match .keys1) at (c .before .before .pre)
 
--- src/element.rt:71:13
 byte-requires : tie.Need-byte-requires
 byte-requires c κs = search needs
 
--- src/element.rt:71:13
 cast-result : tie.Need-cast-result
 cast-result c = search needs
 
--- src/element.rt:74:23
 add-end-2 : tie.Need-add-end-2
 add-end-2 c = search needs
 
--- src/element.rt:75:26
 sub-byte-2 : tie.Need-sub-byte-2
 sub-byte-2 c = search needs
 
--- src/element.rt:75:26
 part-byte-start-2 : tie.Need-part-byte-start-2
 part-byte-start-2 c = search needs
 
--- src/element.rt:75:26
 part-byte-end-2 : tie.Need-part-byte-end-2
 unfolding typeOf
 part-byte-end-2 c = rw (c .match .keys2) at (c .before .before .pre)
 
--- src/element.rt:75:21
 byte-requires-2 : tie.Need-byte-requires-2
 byte-requires-2 c κs = search needs
 
--- src/element.rt:75:13
 signed8-requires : tie.Need-signed8-requires
 signed8-requires c κs = search needs
 
--- src/element.rt:75:13
 cast-result-2 : tie.Need-cast-result-2
 cast-result-2 c = widened-fits w8 w64 (c .signed8 .result) tt (search needs)
 
--- src/element.rt:78:23
 add-end-3 : tie.Need-add-end-3
 add-end-3 c = search needs
 
--- src/element.rt:79:18
 sub-be16 : tie.Need-sub-be16
 sub-be16 c = search needs
 
--- src/element.rt:79:18
 part-be16-start : tie.Need-part-be16-start
 part-be16-start c = search needs
 
--- src/element.rt:79:18
 part-be16-end : tie.Need-part-be16-end
 unfolding typeOf
 part-be16-end c = rw (c .match .keys3) at (c .before .before .pre)
 
--- src/element.rt:79:13
 be16-requires : tie.Need-be16-requires
 be16-requires c κs = search needs
 
--- src/element.rt:79:13
 cast-result-3 : tie.Need-cast-result-3
 cast-result-3 c = search needs
 
--- src/element.rt:82:23
 add-end-4 : tie.Need-add-end-4
 add-end-4 c = search needs
 
--- src/element.rt:83:21
 sub-x : tie.Need-sub-x
 sub-x c = search needs
 
--- src/element.rt:83:21
 part-x-start : tie.Need-part-x-start
 part-x-start c = search needs
 
--- src/element.rt:83:21
 part-x-end : tie.Need-part-x-end
 unfolding typeOf
 part-x-end c = rw (c .match .keys4) at (c .before .before .pre)
 
--- src/element.rt:84:25
 byte-requires-3 : tie.Need-byte-requires-3
 byte-requires-3 c κs = search needs
 
--- src/element.rt:84:37
 byte-requires-4 : tie.Need-byte-requires-4
 byte-requires-4 c κs = search needs
 
--- src/element.rt:84:13
 signed-pair-requires : tie.Need-signed-pair-requires
 signed-pair-requires c κs = search needs
 
--- src/element.rt:87:23
 add-end-5 : tie.Need-add-end-5
 add-end-5 c = search needs
 
--- src/element.rt:88:27
 sub-be32 : tie.Need-sub-be32
 sub-be32 c = search needs
 
--- src/element.rt:88:27
 part-be32-start : tie.Need-part-be32-start
 part-be32-start c = search needs
 
--- src/element.rt:88:27
 part-be32-end : tie.Need-part-be32-end
 unfolding typeOf
 part-be32-end c = rw (c .match .keys5) at (c .before .before .pre)
 
--- src/element.rt:88:22
 be32-requires : tie.Need-be32-requires
 be32-requires c κs = search needs
 
--- src/element.rt:88:13
 signed32-requires : tie.Need-signed32-requires
 signed32-requires c κs = search needs
 
--- src/element.rt:88:13
 cast-result-4 : tie.Need-cast-result-4
 cast-result-4 c = widened-fits w32 w64 (c .signed32 .result) tt (search needs)
 
--- src/element.rt:90:14
 byte-requires-5 : tie.Need-byte-requires-5
 byte-requires-5 c κs = search needs
 
--- src/element.rt:90:14
 cast-result-5 : tie.Need-cast-result-5
 cast-result-5 c = search needs
 
--- src/element.rt:64:1
 returns : tie.Need-returns
-returns c =     let m = c .before .before in
+returns c =
+    let m = c .before .before in
     let g = m .before .before .args in
     toZ-pos w64 (omega arith) ∙ ap pos (read-part 1 (g .p) (g .l .now) _ (c .byte .ensures)) ∙ whole-one (g .l .now) (g .p) (g .code) (m .match .keys1)
 
--- src/element.rt:64:1
 returns-2 : tie.Need-returns-2
-returns-2 c =     let m = c .before .before .before in
+returns-2 c =
+    let m = c .before .before .before in
     let g = m .before .before .args in
     widened w8 w64 _ tt (search needs) ∙ c .signed8 .ensures ∙ ap (signed 1) (read-part 1 (g .p) (g .l .now) _ (c .before .byte2 .ensures)) ∙ whole-char (g .l .now) (g .p) (g .code) (m .match .keys2)
 
--- src/element.rt:64:1
 returns-3 : tie.Need-returns-3
-returns-3 c =     let m = c .before .before in
+returns-3 c =
+    let m = c .before .before in
     let g = m .before .before .args in
     toZ-pos w64 (omega arith) ∙ ap pos (read-part 2 (g .p) (g .l .now) _ (c .be16 .ensures)) ∙ whole-word (g .l .now) (g .p) (g .code) (m .match .keys3)
 
--- src/element.rt:64:1
 returns-4 : tie.Need-returns-4
-returns-4 c =     let m = c .before .before .before .before in
+returns-4 c =
+    let m = c .before .before .before .before in
     let g = m .before .before .args in
     let f : toZ w64 (ofZ w64 (c .signed-pair .result)) ≡ c .signed-pair .result = search needs in
     f ∙ c .signed-pair .ensures ∙ ap (signed 2) (read-pair (g .p) (g .l .now) _ _ (c .before .before .byte3 .ensures) (c .before .byte4 .ensures)) ∙ whole-short (g .l .now) (g .p) (g .code) (m .match .keys4)
 
--- src/element.rt:64:1
 returns-5 : tie.Need-returns-5
-returns-5 c =     let m = c .before .before .before in
+returns-5 c =
+    let m = c .before .before .before in
     let g = m .before .before .args in
     widened w32 w64 _ tt (search needs) ∙ c .signed32 .ensures ∙ ap (signed 4) (read-part 4 (g .p) (g .l .now) _ (c .before .be32 .ensures)) ∙ whole-long (g .l .now) (g .p) (g .code) (m .match .keys5)
 
--- src/element.rt:64:1
 returns-6 : tie.Need-returns-6
-returns-6 c =     let g = c .before .before .before .args in
+returns-6 c =
+    let g = c .before .before .before .args in
     toZ-pos w64 (omega arith) ∙ ap pos (c .byte5 .ensures) ∙ whole-byte (g .l .now) (g .p) (g .code) (λ e. omega arith) (λ e. omega arith) (λ e. omega arith) (λ e. omega arith)
 
 pub whole-at-spec : {M : Type 1} → statement M

@@ -4,8 +4,9 @@ use lib.ListN.{length-take}
 use borrow.Author.Needs.{needs}
 use Rattle.reading.specs.Check.{ok}
 use Rattle.abif.specs.Directory.{opened}
-use Rattle.abif.proofs.directory.Laws.{opened-at}
-use Rattle.abif.proofs.listing.Laws.{entry-refused, entry-before, entry-past, entry-there}
+use Rattle.abif.specs.Listing.{entryReading}
+use Rattle.abif.proofs.directory.Laws.{opened-at, after-refused}
+use Rattle.abif.proofs.listing.Laws.{entry-before, entry-past, entry-there}
 use Rattle.abif.proofs.listing.entry.Statement.{statement}
 use Rattle.abif.proofs.listing.entry.Tie as tie
 
@@ -67,11 +68,12 @@ raw-entry-requires : tie.Need-raw-entry-requires
 raw-entry-requires c κs = search needs
 
 returns-3 : tie.Need-returns-3
+unfolding entryReading
 returns-3 c =
     let a = c .before in
     let o = a .before .before in
     let g = o .before .before .args in
-    entry-refused (g .s .now) (g .index) _ (sym (o .open .ensures) ∙ ap opened (a .n .given .1))
+    after-refused _ (g .s .now) _ (sym (o .open .ensures) ∙ ap opened (a .n .given .1))
 
 returns-4 : tie.Need-returns-4
 returns-4 c =

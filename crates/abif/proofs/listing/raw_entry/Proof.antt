@@ -1,7 +1,7 @@
 use mir.Syntax.{w16, w32}
 use borrow.Author.Needs.{needs}
+use Rattle.reading.proofs.Signs.{field-is}
 use Rattle.abif.specs.Listing.{rawEntry}
-use Rattle.abif.proofs.listing.Laws.{field-is}
 use Rattle.abif.proofs.listing.raw_entry.Statement.{statement}
 use Rattle.abif.proofs.listing.raw_entry.Tie as tie
 

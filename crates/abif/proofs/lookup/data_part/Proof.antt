@@ -24,11 +24,13 @@ part-requires-2 : tie.Need-part-requires-2
 part-requires-2 c κs = search needs
 
 returns : tie.Need-returns
-returns c = let o = c .before .before .before in
+returns c =
+    let o = c .before .before .before in
     c .part .ensures ∙ part-there (shown (o .before .before .args .s)) 0 0 (omega arith) ∙ rw (← o .lookup .ensures, c .before .enum-told .given .1)
 
 returns-2 : tie.Need-returns-2
-returns-2 c = let o = c .before .before .before .before in
+returns-2 c =
+    let o = c .before .before .before .before in
     let g = o .before .before .args in
     let a = c .before .before in
     let w = found-checked (g .s .now) (g .name) (g .number) _ (sym (o .lookup .ensures) ∙ ap found (a .q .given .1)) in

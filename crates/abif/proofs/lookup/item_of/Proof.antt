@@ -21,17 +21,20 @@ data-of-requires : tie.Need-data-of-requires
 data-of-requires c κs = search needs
 
 returns : tie.Need-returns
-returns c = let y = c .before .before .before in
+returns c =
+    let y = c .before .before .before in
     let g = y .before .before .args in
     item-bad (g .s .now) (g .d) _ (y .entry-tests .ensures) _ (c .before .t .given .1)
 
 returns-2 : tie.Need-returns-2
-returns-2 c = let y = c .before .before in
+returns-2 c =
+    let y = c .before .before in
     let g = y .before .before .args in
     item-cut (g .s .now) (g .d) _ (y .entry-tests .ensures) _ _ (c .enum-told .given .1)
 
 returns-3 : tie.Need-returns-3
-returns-3 c = let y = c .before .before .before in
+returns-3 c =
+    let y = c .before .before .before in
     let g = y .before .before .args in
     ap ok (c .data-of .ensures) ∙ item-found (g .s .now) (g .d) _ (y .entry-tests .ensures) _ (c .before .enum-told2 .given .1)
 

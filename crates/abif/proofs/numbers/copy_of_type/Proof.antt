@@ -47,7 +47,8 @@ same-length c = search needs
 
 returns : tie.Need-returns
 unfolding typeOf
-returns c = let m = c .before .before .before in
+returns c =
+    let m = c .before .before .before in
     let z = m .before .before in
     let e : z .args .w ≡ 1 = z .pre .0 ∙ rw (m .match .keys1) in
     rw (m .match .keys1, e) (c .before .copy .ensures)
@@ -57,7 +58,8 @@ same-length-2 c = search needs
 
 returns-2 : tie.Need-returns-2
 unfolding typeOf
-returns-2 c = let m = c .before .before .before in
+returns-2 c =
+    let m = c .before .before .before in
     let z = m .before .before in
     let e : z .args .w ≡ 1 = z .pre .0 ∙ rw (m .match .keys2) in
     rw (m .match .keys2, e) (c .before .copy2 .ensures)
@@ -67,7 +69,8 @@ same-length-3 c = search needs
 
 returns-3 : tie.Need-returns-3
 unfolding typeOf
-returns-3 c = let m = c .before .before .before in
+returns-3 c =
+    let m = c .before .before .before in
     let z = m .before .before in
     let e : z .args .w ≡ 2 = z .pre .0 ∙ rw (m .match .keys3) in
     rw (m .match .keys3, e) (c .before .copy3 .ensures)
@@ -77,7 +80,8 @@ same-length-4 c = search needs
 
 returns-4 : tie.Need-returns-4
 unfolding typeOf
-returns-4 c = let m = c .before .before .before in
+returns-4 c =
+    let m = c .before .before .before in
     let z = m .before .before in
     let e : z .args .w ≡ 2 = z .pre .0 ∙ rw (m .match .keys4) in
     rw (m .match .keys4, e) (c .before .copy4 .ensures)
@@ -87,7 +91,8 @@ same-length-5 c = search needs
 
 returns-5 : tie.Need-returns-5
 unfolding typeOf
-returns-5 c = let m = c .before .before .before in
+returns-5 c =
+    let m = c .before .before .before in
     let z = m .before .before in
     let e : z .args .w ≡ 4 = z .pre .0 ∙ rw (m .match .keys5) in
     rw (m .match .keys5, e) (c .before .copy5 .ensures)

@@ -15,7 +15,8 @@ is-whole-requires : tie.Need-is-whole-requires
 is-whole-requires c κs = search needs
 
 returns : tie.Need-returns
-returns c = let w = c .before .before in
+returns c =
+    let w = c .before .before in
     let g = w .before .before .args in
     let e = of-none (g .s .now) (g .q) (g .first) (length (g .out .now)) (sym (w .is-whole .ensures) ∙ c .before .if1 .taken) (rw (lt-leb 1 (g .first) (c .if2 .taken))) in
     (rw e, rw e)
@@ -24,7 +25,8 @@ cast-if3 : tie.Need-cast-if3
 cast-if3 c = search needs
 
 returns-2 : tie.Need-returns-2
-returns-2 c = let w = c .before .before .before .before in
+returns-2 c =
+    let w = c .before .before .before .before in
     let g = w .before .before .args in
     let e = of-none (g .s .now) (g .q) (g .first) (length (g .out .now)) (sym (w .is-whole .ensures) ∙ c .before .before .before .if1 .taken) (rw (le-leb 1 (g .first) (omega arith), lt-leb (g .first) (g .q .count) (omega arith))) in
     (rw e, rw e)
@@ -36,7 +38,8 @@ sub-n : tie.Need-sub-n
 sub-n c = search needs
 
 returns-3 : tie.Need-returns-3
-returns-3 c = let w = c .before .before .before .before .before .before in
+returns-3 c =
+    let w = c .before .before .before .before .before .before in
     let g = w .before .before .args in
     let f : isElement (g .first) (g .q .count) ≡ true = rw (le-leb 1 (g .first) (omega arith), le-leb (g .first) (g .q .count) (omega arith)) in
     let e = of-little (g .s .now) (g .q) (g .first) (length (g .out .now)) (sym (w .is-whole .ensures) ∙ c .before .before .before .before .before .if1 .taken) f (lt-leb (g .q .count - (g .first - 1)) (length (g .out .now)) (omega arith)) in
@@ -78,7 +81,8 @@ same-length : tie.Need-same-length
 same-length c = search needs
 
 returns-4 : tie.Need-returns-4
-returns-4 c = let y = c .before in
+returns-4 c =
+    let y = c .before in
     let d = y .before .before .before .before .before in
     let i = d .before .before .before .before .before .before in
     let w = i .before in
@@ -88,7 +92,8 @@ returns-4 c = let y = c .before in
     of-copied (g .s .now) (g .q) (g .first) (g .out .now) _ (d .width-of .result) (d .width-of .ensures) (sym (w .is-whole .ensures) ∙ i .if1 .taken) f r (omega arith) (y .copy-of-type .ensures)
 
 returns-5 : tie.Need-returns-5
-returns-5 c = let w = c .before in
+returns-5 c =
+    let w = c .before in
     let g = w .before .before .args in
     let e = of-other (g .s .now) (g .q) (g .first) (length (g .out .now)) (sym (w .is-whole .ensures) ∙ c .if1 .left) in
     (rw e, rw e)

@@ -24,7 +24,8 @@ numbers-of-requires c κs = let o = c .before .before .before .before in
 
 returns : tie.Need-returns
 unfolding numbersReading
-returns c = let o = c .before .before .before in
+returns c =
+    let o = c .before .before .before in
     let g = o .before .before .args in
     let e = bind-refused (lookingUp (g .name) (g .number)) (λ q. numbersOf q (g .first) (length (g .out .now))) (g .s .now) _ 0 (sym (o .lookup .ensures) ∙ ap found (c .before .n .given .1)) in
     (rw (← e), rw (← e))
@@ -34,7 +35,8 @@ same-length c = search needs
 
 returns-2 : tie.Need-returns-2
 unfolding numbersReading
-returns-2 c = let o = c .before .before .before .before .before .before in
+returns-2 c =
+    let o = c .before .before .before .before .before .before in
     let g = o .before .before .args in
     let e = bind-answered (lookingUp (g .name) (g .number)) (λ q. numbersOf q (g .first) (length (g .out .now))) (g .s .now) _ (sym (o .lookup .ensures) ∙ ap found (c .before .before .before .before .q .given .1)) in
     (c .before .numbers-of .ensures .0 ∙ rw e, c .before .numbers-of .ensures .1 ∙ rw e)

@@ -1,8 +1,9 @@
 use mathlib.Core.Path.{_∙_, sym, ap}
 use borrow.Author.Needs.{needs}
-use Rattle.abif.specs.Lookup.{found}
+use Rattle.reading.proofs.Passed.{bind-refused, bind-answered}
+use Rattle.abif.specs.Lookup.{found, lookingUp}
 use Rattle.abif.proofs.lookup.Laws.{found-checked}
-use Rattle.abif.proofs.text.Laws.{reading-refused, reading-found}
+use Rattle.abif.specs.Text.{textOf, textReading}
 use Rattle.abif.proofs.text.read_text.Statement.{statement}
 use Rattle.abif.proofs.text.read_text.Tie as tie
 
@@ -23,18 +24,20 @@ text-of-requires c κs =
     found-checked (g .s .now) (g .name) (g .number) _ (sym (o .lookup .ensures) ∙ ap found (a .q .given .1)) .within
 
 returns : tie.Need-returns
+unfolding textReading
 returns c =
     let a = c .before in
     let o = a .before .before in
     let g = o .before .before .args in
-    reading-refused (g .s .now) (g .name) (g .number) _ (sym (o .lookup .ensures) ∙ ap found (a .n .given .1))
+    bind-refused (lookingUp (g .name) (g .number)) textOf (g .s .now) _ 0 (sym (o .lookup .ensures) ∙ ap found (a .n .given .1))
 
 returns-2 : tie.Need-returns-2
+unfolding textReading
 returns-2 c =
     let a = c .before .before in
     let o = a .before .before in
     let g = o .before .before .args in
-    c .text-of .ensures ∙ reading-found (g .s .now) (g .name) (g .number) _ (sym (o .lookup .ensures) ∙ ap found (a .q .given .1))
+    c .text-of .ensures ∙ bind-answered (lookingUp (g .name) (g .number)) textOf (g .s .now) _ (sym (o .lookup .ensures) ∙ ap found (a .q .given .1))
 
 pub read-text-spec : {M : Type 1} → statement M
 read-text-spec =
