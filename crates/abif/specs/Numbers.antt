@@ -5,10 +5,11 @@ use mathlib.Core.List.{List, [], _∷_}
 use mathlib.Core.Bool.{Bool}
 use lib.Dec.{leb}
 use lib.IntN.{ℤ}
+use Rattle.reading.specs.Choice.{among}
 use Rattle.reading.specs.Check.{Check, Answer, ok, refused, done, provided, _>>=_, _>>_}
 use Rattle.abif.specs.declared.numbers.Copied.{Copied}
 use Rattle.abif.specs.declared.numbers.Copied.the-variants.{Count, Refused}
-use Rattle.abif.specs.Entry.{among, typeOf}
+use Rattle.abif.specs.Entry.{typeOf}
 use Rattle.abif.specs.declared.lookup.ItemData.{ItemData}
 use Rattle.abif.specs.Lookup.{lookingUp}
 use Rattle.abif.specs.Element.{wholeAt, sizeOf, isElement, elementPlace, itemBytes}

@@ -5,13 +5,12 @@ use mathlib.Core.List.{List, [], _∷_}
 use mathlib.Core.Bool.{Bool, true, false, not}
 use lib.Dec.{leb, eqb}
 use lib.ListN.{getD}
-use Rattle.reading.specs.Choice.{pick}
+use Rattle.reading.specs.Choice.{pick, among}
 use Rattle.reading.specs.declared.check.Rule.the-variants.{Exactly, EqualTo}
 use Rattle.reading.specs.Check.{Check, Answer, ok, refused, done, must, provided, _>>=_, _>>_}
 use Rattle.reading.specs.Part.{Span}
 use Rattle.abif.specs.declared.text.Text.{Text}
 use Rattle.abif.specs.declared.text.Text.the-variants.{At, Refused}
-use Rattle.abif.specs.Entry.{among}
 use Rattle.abif.specs.declared.lookup.ItemData.{ItemData}
 use Rattle.abif.specs.Lookup.{lookingUp}
 use Rattle.abif.specs.Element.{byteField, itemBytes}

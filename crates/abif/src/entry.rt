@@ -84,7 +84,8 @@ pub(crate) fn type_of(k: u16) -> ElementType
         13 => ElementType::Listed(1),
         18 => ElementType::Listed(1),
         19 => ElementType::Listed(1),
-        6 | 9 | 14 | 15 | 16 | 17 | 20 | 128 | 256 | 384 => ElementType::Raw,
+        6 | 9 | 14 | 16 | 20 | 128 | 256 | 384 => ElementType::Raw,
+        15 | 17 => ElementType::Raw,
         1024..=32767 => ElementType::Raw,
         _ => ElementType::Unknown,
     }

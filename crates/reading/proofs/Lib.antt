@@ -12,4 +12,5 @@ pub mod Bits
 pub mod Signed
 pub mod Floats
 pub mod Tests
+pub mod Match
 pub mod Width

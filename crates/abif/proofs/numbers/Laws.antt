@@ -1,22 +1,21 @@
 -- The copied numbers, from the answers of their parts.
 -- Assumes nothing.
 use Prim.Native.Nat.{ℕ, zero, suc, _+_, _-_, _*_, _≤_, _<_}
-use mathlib.Core.Path.{_≡_, refl, sym, _∙_, ap, subst}
+use mathlib.Core.Path.{_≡_, refl, sym, _∙_, ap}
 use mathlib.Core.List.{List, [], _∷_, _++_}
-use mathlib.Core.Bool.{Bool, true, false}
+use mathlib.Core.Bool.{true, false}
 use native.Mathlib.Nat.{mul-suc, mul-add}
 use native.Mathlib.Omega.{arith}
-use lib.Dec.{leb, eqb}
-use borrow.Author.Tests.{eqb-true}
+use lib.Dec.{leb}
 use lib.IntN.{ℤ}
 use lib.ListN.{length, take, drop}
-use Rattle.reading.specs.Choice.{pick}
 use Rattle.reading.specs.Check.{ok, refused, answer, mapAnswer, holds}
 use Rattle.reading.specs.Lent.{filled}
+use Rattle.reading.proofs.Match.{among-each}
 use Rattle.reading.proofs.Steps.{answer-bind, answer-must, answer-done, answer-need-present}
 use Rattle.abif.specs.declared.lookup.ItemData.{ItemData}
 use Rattle.abif.specs.declared.entry.ElementType.the-variants.{Listed}
-use Rattle.abif.specs.Entry.{among, typeOf}
+use Rattle.abif.specs.Entry.{typeOf}
 use Rattle.abif.specs.Element.{sizeOf, isElement, elementPlace}
 use Rattle.abif.specs.Numbers.{isWhole, wholesAt, left, numbersOf}
 
@@ -61,19 +60,6 @@ first-place w n = ap (λ (k : ℕ). w * k) (omega arith)
 -- the numbers from number `first` on end where the item does
 pub last-place : (w first n : ℕ) → 1 ≤ first → first ≤ n → w * (first - 1) + w * (n - (first - 1)) ≡ w * n
 last-place w first n a b = sym (mul-add w (first - 1) (n - (first - 1))) ∙ ap (λ (k : ℕ). w * k) (omega arith)
-
--- what holds of each of the codes holds of one among them
-abbrev Each : (ℕ → Type 0) → List ℕ → Type 0
-Each P [] = Unit {0}
-Each P (x ∷ xs) = P x × Each P xs
-
-among-each : (P : ℕ → Type 0) (k : ℕ) (xs : List ℕ) → Each P xs → among k xs ≡ true → P k
-among-each P k [] e h = let z : _≡_ {A = ℕ} 0 1 = cc in absurd (omega arith)
-among-each P k (x ∷ xs) e h = go (eqb k x) refl h (among-each P k xs (e .1))
-  where
-    go : (b : Bool) → eqb k x ≡ b → pick b true (among k xs) ≡ true → (among k xs ≡ true → P k) → P k
-    go true q w u = subst P (sym (eqb-true k x q)) (e .0)
-    go false q w u = u w
 
 -- a type of whole numbers is listed
 pub whole-listed : (k : ℕ) → isWhole k ≡ true → typeOf k ≡ Listed (sizeOf (typeOf k))

@@ -1,4 +1,6 @@
-use borrow.Author.Tests.{ne-eqb}
+use mathlib.Core.Path.{refl, sym}
+use mathlib.Core.List.{[], _∷_}
+use Rattle.reading.proofs.Match.{none-of}
 use Rattle.abif.specs.Numbers.{isWhole}
 use Rattle.abif.proofs.numbers.is_whole.Statement.{statement}
 use Rattle.abif.proofs.numbers.is_whole.Tie as tie
@@ -33,7 +35,7 @@ returns-7 c = rw (c .match .keys7)
 
 returns-8 : tie.Need-returns-8
 unfolding isWhole
-returns-8 c = rw (ne-eqb (c .before .args .code) 1 (c .match .rest .0 .0 .0 .0 .0 .0 .1), ne-eqb (c .before .args .code) 2 (c .match .rest .0 .0 .0 .0 .0 .1), ne-eqb (c .before .args .code) 3 (c .match .rest .0 .0 .0 .0 .1), ne-eqb (c .before .args .code) 4 (c .match .rest .0 .0 .0 .1), ne-eqb (c .before .args .code) 5 (c .match .rest .0 .0 .1), ne-eqb (c .before .args .code) 18 (c .match .rest .0 .1), ne-eqb (c .before .args .code) 19 (c .match .rest .1))
+returns-8 c = sym (none-of ((19 ∷ []) ∷ (18 ∷ []) ∷ (5 ∷ []) ∷ (4 ∷ []) ∷ (3 ∷ []) ∷ (2 ∷ []) ∷ (1 ∷ []) ∷ []) (c .before .args .code) (c .match .rest) (1 ∷ 2 ∷ 3 ∷ 4 ∷ 5 ∷ 18 ∷ 19 ∷ []) (refl, (refl, (refl, (refl, (refl, (refl, (refl, tt))))))))
 
 pub is-whole-spec : {M : Type 1} → statement M
 is-whole-spec =
