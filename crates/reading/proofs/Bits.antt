@@ -4,13 +4,13 @@ use Prim.Native.Nat.{ℕ, suc, _-_, _*_, _<_, _≤_, _^_}
 use mathlib.Core.Path.{_≡_, refl, sym, _∙_, ap}
 use mathlib.Core.Bool.{true, false}
 use native.Mathlib.Omega.{arith}
-use native.Mathlib.Nat.{mul-comm, pow-suc}
 use lib.IntN.{ℤ, pos, negsuc, _-ℤ_, natAbs}
 use lib.Signed.{mag, leZ, nonNeg}
 use lib.Dec.{T, leb}
 use borrow.Author.Tests.{le-leb, lt-leb, lt-ltb, le-ltb}
 use Rattle.reading.specs.Number as Number
 use Rattle.reading.specs.Number.{signed}
+use Rattle.reading.proofs.Signs.{half}
 use mir.Syntax.{Width}
 use mir.Val.{Fits, SFits, toZ, ofZ, hbits, bits}
 use mir.Facts.{toZ-pos, toZ-ofZ}
@@ -75,11 +75,6 @@ module _ (w : Width) (n : ℕ) (e : bits w ≡ 8 * n) where
   pub below-bits : (z : ℤ) (k m : ℕ) → z ≡ negsuc k → m ≡ k → 2 ^ (8 * n) - 1 - m ≡ Number.bits n z
   unfolding Number.bits
   below-bits z k m q r = rw (q, r) (omega arith)
-
-half : (w : ℕ) → 0 < w → 2 ^ (8 * w) ≡ 2 * 2 ^ (8 * w - 1)
-half w h =
-    let e : 8 * w ≡ suc (8 * w - 1) = omega arith in
-    ap (λ (k : ℕ). 2 ^ k) e ∙ pow-suc 2 (8 * w - 1) ∙ mul-comm (2 ^ (8 * w - 1)) 2
 
 -- a signed number is the one whose bytes hold its bits
 pub signed-bits : (w : ℕ) (z : ℤ) → 0 < w → mag z < 2 ^ (8 * w - 1) → signed w (Number.bits w z) ≡ z

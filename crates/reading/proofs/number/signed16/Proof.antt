@@ -1,12 +1,10 @@
-use Prim.Native.Nat.{suc, _-_}
-use mathlib.Core.Path.{_≡_, ap}
+use mathlib.Core.Path.{refl}
 use native.Mathlib.Omega.{arith}
-use lib.IntN.{negsuc}
 use mir.Syntax.{w16}
-use borrow.Author.Tests.{lt-ltb, le-ltb}
+use borrow.Author.Tests.{lt-ltb}
 use borrow.Author.Needs.{needs}
 use Rattle.reading.specs.Number.{signed}
-use Rattle.reading.proofs.Signs.{below-fits, below-is}
+use Rattle.reading.proofs.Signs.{negative-fits, negative-is}
 use Rattle.reading.proofs.number.signed16.Statement.{statement}
 use Rattle.reading.proofs.number.signed16.Tie as tie
 
@@ -24,12 +22,10 @@ cast-result-2 : tie.Need-cast-result-2
 cast-result-2 c = search needs
 
 sub-result : tie.Need-sub-result
-sub-result c = below-fits w16 (65535 - c .before .args .x) (omega arith)
+sub-result c = negative-fits w16 2 (c .before .args .x) (omega arith) refl (c .if1 .left) (omega arith)
 
 returns-2 : tie.Need-returns-2
-unfolding signed
-returns-2 c = let e : 65535 - c .before .args .x ≡ 65536 - suc (c .before .args .x) = omega arith in
-    simp (le-ltb _ _ (c .if1 .left), below-is w16 (65535 - c .before .args .x) (omega arith)) (ap negsuc e)
+returns-2 c = negative-is w16 2 (c .before .args .x) (omega arith) refl (c .if1 .left) (omega arith)
 
 pub signed16-spec : {M : Type 1} → statement M
 signed16-spec = tie.close (tie.spec cast-result returns sub-y cast-result-2 sub-result returns-2)
