@@ -16,7 +16,7 @@ use reading::number::signed16;
 use reading::number::signed32;
 ghost use mathlib.Core.Path.{_≡_};
 ghost use mathlib.Core.List.{List};
-ghost use Prim.Native.Nat.{ℕ, _+_, _≤_, _<_};
+ghost use Prim.Native.Nat.{ℕ, _+_, _-_, _*_, _≤_, _<_};
 ghost use lib.ListN.{length};
 ghost use Rattle.reading.specs.Check.{answer};
 ghost use Rattle.abif.specs.Entry.{typeOf};
@@ -171,6 +171,14 @@ fn value_at(l: &[u8], code: u16, p: usize) -> Element
     }
 }
 
+// The place of element `index`, from one, of elements that are w bytes wide.
+pub(crate) fn element_place(start: usize, w: u16, index: u64) -> usize
+    requires { ⌜ (start < 0x100000000) × (1 ≤ index) × (index < 0x100000000) ⌝ }
+    ensures { λ r. ⌜ (r ≡ start + w * (index - 1)) × (r < 0x2000000000000) ⌝ }
+{
+    start + w as usize * (index - 1) as usize
+}
+
 fn listed_element(s: &[u8], q: ItemData, w: u16, index: u64) -> Element
     requires { ⌜ Checked (now s) q × (typeOf (q .«element_type») ≡ ElementType.Listed w) ⌝ }
     ensures { λ r. ⌜ element r ≡ answer (elementOf q index) (now (s .entry)) ⌝ }
@@ -182,7 +190,7 @@ fn listed_element(s: &[u8], q: ItemData, w: u16, index: u64) -> Element
         return Element::Refused(12);
     }
     let end = q.start + q.size;
-    let p = q.start + w as usize * (index - 1) as usize;
+    let p = element_place(q.start, w, index);
     value_at(&s[..end], q.element_type, p)
 }
 

@@ -1,4 +1,5 @@
 // The elements of a whole-number item, many at once.
+use crate::element::element_place;
 use crate::element::whole_at;
 use crate::element::width_of;
 use crate::lookup::Found;
@@ -82,10 +83,10 @@ fn numbers_of(s: &[u8], q: ItemData, first: u64, out: &mut [i64]) -> Copied
         if out.len() < n {
             return Copied::Refused(13);
         }
-        let w = width_of(q.element_type) as usize;
-        let p = q.start + w * (first - 1) as usize;
+        let w = width_of(q.element_type);
+        let p = element_place(q.start, w, first);
         let end = q.start + q.size;
-        copy_of_type(&s[..end], q.element_type, w, p, n, out);
+        copy_of_type(&s[..end], q.element_type, w as usize, p, n, out);
         Copied::Count(n as u64)
     } else {
         Copied::Refused(10)

@@ -1,6 +1,6 @@
 -- Elements, from the answers of their parts.
 -- Assumes nothing.
-use Prim.Native.Nat.{ℕ, _+_, _-_, _*_, _≤_}
+use Prim.Native.Nat.{ℕ, _+_, _-_, _*_, _^_, _≤_, _<_}
 use mathlib.Core.Path.{_≡_, _∙_, ap}
 use mathlib.Core.List.{List}
 use mathlib.Core.Bool.{true, false, not}
@@ -13,6 +13,7 @@ use native.Mathlib.Omega.{arith}
 use borrow.Author.Tests.{ne-eqb}
 use Rattle.reading.specs.Number.{be, signed}
 use Rattle.reading.specs.Check.{ok, refused, answer, holds}
+use Rattle.reading.proofs.Product.{below}
 use Rattle.reading.proofs.Width.{be-part, be-split}
 use Rattle.reading.proofs.Steps.{answer-bind, answer-must, answer-need-present}
 use Rattle.abif.specs.declared.entry.ElementType.the-variants.{Listed}
@@ -28,6 +29,10 @@ pub read-pair : (p : ℕ) (l : List ℕ) (a b : ℕ) → a ≡ be 1 (take (p + 2
 read-pair p l a b e f =
     let s = be-split 1 1 (take (p + 2 - p) (drop p l)) 0 in
     read-part 2 p l (256 * a + b) (omega arith)
+
+-- the place of an element is a machine's number
+pub place-below : {s w i : ℕ} → s < 0x100000000 → w < 2 ^ 16 → i < 2 ^ 32 → s + w * i < 0x2000000000000
+place-below {s} {w} {i} a b c = omega (arith, below 16 32 {a = w} {b = i} b c)
 
 -- an element lies within the elements
 pub inside : (w i n : ℕ) → 1 ≤ i → i ≤ n → w * (i - 1) + w ≤ w * n
@@ -102,6 +107,6 @@ module _ (s : List ℕ) (q : ItemData) (i : ℕ) where
     unfolding elementOf holds
     of-none f = simp (answer-bind, answer-must, t, f)
 
-    pub of-value : isElement i (q .count) ≡ true → q .start + q .size ≤ length s → answer (valueAt (q .«element_type») (take (q .start + q .size) s) (q .start + w * (i - 1))) s ≡ answer (elementOf q i) s
+    pub of-value : (p : ℕ) → p ≡ q .start + w * (i - 1) → isElement i (q .count) ≡ true → q .start + q .size ≤ length s → answer (valueAt (q .«element_type») (take (q .start + q .size) s) p) s ≡ answer (elementOf q i) s
     unfolding elementOf holds
-    of-value f h = simp (answer-bind, answer-must, t, f, answer-need-present (q .start) (q .start + q .size) s h)
+    of-value p e f h = rw e (simp (answer-bind, answer-must, t, f, answer-need-present (q .start) (q .start + q .size) s h))

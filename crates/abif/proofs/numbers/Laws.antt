@@ -45,10 +45,10 @@ module _ (s : List ℕ) (q : ItemData) (first room : ℕ) where
       of-numbers g h = simp (answer-bind, answer-must, answer-done, t, f, g, answer-need-present (q .start) (q .start + q .size) s h)
 
 -- what is answered, and what the output then holds, where the numbers are copied
-pub of-copied : (s : List ℕ) (q : ItemData) (first : ℕ) (out out′ : List ℤ) (w : ℕ) → w ≡ sizeOf (typeOf (q .«element_type»)) → isWhole (q .«element_type») ≡ true → isElement first (q .count) ≡ true → leb (left q first) (length out) ≡ true → q .start + q .size ≤ length s → out′ ≡ wholesAt (q .«element_type») w (take (q .start + q .size) s) (q .start + w * (first - 1)) (left q first) ++ drop (left q first) out → (ok (left q first) ≡ mapAnswer length (answer (numbersOf q first (length out)) s)) × (out′ ≡ filled (answer (numbersOf q first (length out)) s) out)
-of-copied s q first out out′ w e t f g h c =
+pub of-copied : (s : List ℕ) (q : ItemData) (first : ℕ) (out out′ : List ℤ) (w p : ℕ) → p ≡ q .start + w * (first - 1) → w ≡ sizeOf (typeOf (q .«element_type»)) → isWhole (q .«element_type») ≡ true → isElement first (q .count) ≡ true → leb (left q first) (length out) ≡ true → q .start + q .size ≤ length s → out′ ≡ wholesAt (q .«element_type») w (take (q .start + q .size) s) p (left q first) ++ drop (left q first) out → (ok (left q first) ≡ mapAnswer length (answer (numbersOf q first (length out)) s)) × (out′ ≡ filled (answer (numbersOf q first (length out)) s) out)
+of-copied s q first out out′ w p a e t f g h c =
     let r = of-numbers s q first (length out) t f g h in
-    (rw r (ap ok (sym (length-wholes _ _ _ _ _))), c ∙ rw (r, e, length-wholes))
+    (rw r (ap ok (sym (length-wholes _ _ _ _ _))), c ∙ rw (r, a, e, length-wholes))
 
 -- the bytes of the numbers that are left, before and after one of them
 pub next-place : (w n i : ℕ) → i < n → w * (n - i) ≡ w * (n - (i + 1)) + w

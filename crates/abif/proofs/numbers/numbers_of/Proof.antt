@@ -5,7 +5,6 @@ use native.Mathlib.Omega.{arith}
 use lib.ListN.{length, length-take}
 use borrow.Author.Tests.{le-leb, lt-leb}
 use borrow.Author.Needs.{needs}
-use Rattle.reading.proofs.Product.{below}
 use Rattle.abif.proofs.numbers.Laws.{whole-listed, last-place, of-copied, of-other, of-none, of-little}
 use Rattle.abif.specs.Element.{isElement}
 use Rattle.abif.proofs.numbers.numbers_of.Statement.{statement}
@@ -15,8 +14,7 @@ is-whole-requires : tie.Need-is-whole-requires
 is-whole-requires c κs = search needs
 
 returns : tie.Need-returns
-returns c =
-    let w = c .before .before in
+returns c = let w = c .before .before in
     let g = w .before .before .args in
     let e = of-none (g .s .now) (g .q) (g .first) (length (g .out .now)) (sym (w .is-whole .ensures) ∙ c .before .if1 .taken) (rw (lt-leb 1 (g .first) (c .if2 .taken))) in
     (rw e, rw e)
@@ -25,8 +23,7 @@ cast-if3 : tie.Need-cast-if3
 cast-if3 c = search needs
 
 returns-2 : tie.Need-returns-2
-returns-2 c =
-    let w = c .before .before .before .before in
+returns-2 c = let w = c .before .before .before .before in
     let g = w .before .before .args in
     let e = of-none (g .s .now) (g .q) (g .first) (length (g .out .now)) (sym (w .is-whole .ensures) ∙ c .before .before .before .if1 .taken) (rw (le-leb 1 (g .first) (omega arith), lt-leb (g .first) (g .q .count) (omega arith))) in
     (rw e, rw e)
@@ -38,8 +35,7 @@ sub-n : tie.Need-sub-n
 sub-n c = search needs
 
 returns-3 : tie.Need-returns-3
-returns-3 c =
-    let w = c .before .before .before .before .before .before in
+returns-3 c = let w = c .before .before .before .before .before .before in
     let g = w .before .before .args in
     let f : isElement (g .first) (g .q .count) ≡ true = rw (le-leb 1 (g .first) (omega arith), le-leb (g .first) (g .q .count) (omega arith)) in
     let e = of-little (g .s .now) (g .q) (g .first) (length (g .out .now)) (sym (w .is-whole .ensures) ∙ c .before .before .before .before .before .if1 .taken) f (lt-leb (g .q .count - (g .first - 1)) (length (g .out .now)) (omega arith)) in
@@ -48,17 +44,8 @@ returns-3 c =
 width-of-requires : tie.Need-width-of-requires
 width-of-requires c κs = search needs
 
-cast-w : tie.Need-cast-w
-cast-w c = search needs
-
-mul-p : tie.Need-mul-p
-mul-p c = record { fits = below 32 32 (omega arith) (omega arith) }
-
-add-p : tie.Need-add-p
-add-p c = let w = c .before in
-    let g = w .before .before .before .before .before .before .before .before .before .args in
-    let b = below 16 32 {a = w .width-of .result} {b = g .first - 1} (omega arith) (omega arith) in
-    omega arith
+element-place-requires : tie.Need-element-place-requires
+element-place-requires c κs = search needs
 
 add-end : tie.Need-add-end
 add-end c = search needs
@@ -66,34 +53,41 @@ add-end c = search needs
 slice-aggregate-copy-of-type : tie.Need-slice-aggregate-copy-of-type
 slice-aggregate-copy-of-type c = simp length-take (omega arith)
 
+cast-copy-of-type : tie.Need-cast-copy-of-type
+cast-copy-of-type c = search needs
+
 copy-of-type-requires : tie.Need-copy-of-type-requires
-copy-of-type-requires c κs = let d = c .before .before .before .before in
-    let i = d .before .before .before .before .before .before in
+copy-of-type-requires c κs = let a = c .before .before .before in
+    let d = a .before in
+    let t = d .before .before .before in
+    let i = t .before .before .before in
     let w = i .before in
     let z = w .before .before in
     let g = z .args in
     let k = whole-listed (g .q .«element_type») (sym (w .is-whole .ensures) ∙ i .if1 .taken) in
     let e : g .q .size ≡ d .width-of .result * g .q .count = z .pre .sizes _ k ∙ rw (d .width-of .ensures) in
-    let l = last-place (d .width-of .result) (g .first) (g .q .count) (omega arith) (omega arith) in
-    (d .width-of .ensures, simp length-take (omega arith), omega arith)
+    let l = last-place (d .width-of .result) (g .first) (g .q .count) (t .before .before .if2 .left) (t .if3 .left) in
+    let p = a .element-place .ensures .0 in
+    (d .width-of .ensures, simp length-take (omega arith), d .before .if4 .left)
 
 same-length : tie.Need-same-length
 same-length c = search needs
 
 returns-4 : tie.Need-returns-4
-returns-4 c =
-    let y = c .before in
-    let d = y .before .before .before .before .before in
-    let i = d .before .before .before .before .before .before in
+returns-4 c = let y = c .before in
+    let a = y .before .before .before .before in
+    let d = a .before in
+    let t = d .before .before .before in
+    let i = t .before .before .before in
     let w = i .before in
-    let g = w .before .before .args in
-    let f : isElement (g .first) (g .q .count) ≡ true = rw (le-leb 1 (g .first) (omega arith), le-leb (g .first) (g .q .count) (omega arith)) in
-    let r = le-leb (g .q .count - (g .first - 1)) (length (g .out .now)) (omega arith) in
-    of-copied (g .s .now) (g .q) (g .first) (g .out .now) _ (d .width-of .result) (d .width-of .ensures) (sym (w .is-whole .ensures) ∙ i .if1 .taken) f r (omega arith) (y .copy-of-type .ensures)
+    let z = w .before .before in
+    let g = z .args in
+    let f : isElement (g .first) (g .q .count) ≡ true = rw (le-leb 1 (g .first) (t .before .before .if2 .left), le-leb (g .first) (g .q .count) (t .if3 .left)) in
+    let r = le-leb (g .q .count - (g .first - 1)) (length (g .out .now)) (d .before .if4 .left) in
+    of-copied (g .s .now) (g .q) (g .first) (g .out .now) _ (d .width-of .result) _ (a .element-place .ensures .0) (d .width-of .ensures) (sym (w .is-whole .ensures) ∙ i .if1 .taken) f r (z .pre .within) (y .copy-of-type .ensures)
 
 returns-5 : tie.Need-returns-5
-returns-5 c =
-    let w = c .before in
+returns-5 c = let w = c .before in
     let g = w .before .before .args in
     let e = of-other (g .s .now) (g .q) (g .first) (length (g .out .now)) (sym (w .is-whole .ensures) ∙ c .if1 .left) in
     (rw e, rw e)
@@ -110,11 +104,10 @@ numbers-of-spec =
     sub-n
     returns-3
     width-of-requires
-    cast-w
-    mul-p
-    add-p
+    element-place-requires
     add-end
     slice-aggregate-copy-of-type
+    cast-copy-of-type
     copy-of-type-requires
     same-length
     returns-4
