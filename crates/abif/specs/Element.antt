@@ -3,10 +3,10 @@
 use Prim.Native.Nat.{ℕ, _+_, _-_, _*_}
 use mathlib.Core.List.{List}
 use mathlib.Core.Bool.{Bool, true, false, not}
-use lib.Dec.{leb, eqb}
+use lib.Dec.{eqb}
 use lib.IntN.{ℤ, pos}
 use lib.Ieee.{Float, binary32, binary64, ofBits}
-use Rattle.reading.specs.Choice.{pick}
+use Rattle.reading.specs.Choice.{pick, isNumberOf}
 use Rattle.reading.specs.Number.{be, signed}
 use Rattle.reading.specs.declared.check.Field.{Field}
 use Rattle.reading.specs.declared.check.Rule.the-variants.{AtMost, Between}
@@ -69,21 +69,19 @@ valueAt k l p =
     (pick (eqb k 13) (done (bool (not (eqb (be 1 l p) 0))))
     (done (whole (wholeAt k l p))))))))
 
--- the element size of a listed type; raw bytes have no elements
-abbrev pub listed : ElementType → Bool
-listed (Listed w) = true
-listed Raw = false
-listed Unknown = false
+-- a listed type; raw bytes have no elements
+abbrev pub isListed : ElementType → Bool
+isListed (Listed w) = true
+isListed Raw = false
+isListed Unknown = false
 
+-- the element size of a listed type
 abbrev pub sizeOf : ElementType → ℕ
 sizeOf (Listed w) = w
 sizeOf Raw = 0
 sizeOf Unknown = 0
 
--- element i of an item; elements count from one
-abbrev pub isElement : ℕ → ℕ → Bool
-isElement i count = pick (leb 1 i) (leb i count) false
-
+-- where element i of an item stands; elements count from one
 abbrev pub elementPlace : ItemData → ℕ → ℕ
 elementPlace q i = q .start + sizeOf (typeOf (q .«element_type»)) * (i - 1)
 
@@ -94,8 +92,8 @@ itemBytes q = need (q .start) (q .start + q .size)
 -- raw types 10, no such element 12, then its contents
 unfoldable pub elementOf : ItemData → ℕ → Check Value
 elementOf q i = do
-  provided (listed (typeOf (q .«element_type»))) 10
-  provided (isElement i (q .count)) 12
+  provided (isListed (typeOf (q .«element_type»))) 10
+  provided (isNumberOf i (q .count)) 12
   l ← itemBytes q
   valueAt (q .«element_type») l (elementPlace q i)
 

@@ -2,13 +2,13 @@
 -- Assumes nothing.
 use Prim.Native.Nat.{ℕ, _+_, _-_, _*_}
 use mathlib.Core.List.{List}
+use Rattle.reading.specs.Choice.{isNumberOf}
 use Rattle.reading.specs.Number.{be, signed}
 use Rattle.reading.specs.Check.{Check, Answer, ok, refused, done, provided, _>>=_, _>>_}
 use Rattle.abif.specs.declared.listing.RawEntry.{RawEntry}
 use Rattle.abif.specs.declared.listing.Listed.{Listed}
 use Rattle.abif.specs.declared.listing.Listed.the-variants.{At, Refused}
 use Rattle.abif.specs.Directory.{directory}
-use Rattle.abif.specs.Element.{isElement}
 
 -- the fields of the entry at place p, signed where the format is
 unfoldable pub rawEntry : List ℕ → ℕ → RawEntry
@@ -28,7 +28,7 @@ rawEntry h p =
 unfoldable pub entryReading : ℕ → Check RawEntry
 entryReading i = do
   d ← directory
-  provided (isElement i (d .count)) 7
+  provided (isNumberOf i (d .count)) 7
   done (rawEntry (d .upTo) (d .place + 28 * (i - 1)))
 
 -- the answer of document 01 that each case stands for

@@ -5,14 +5,14 @@ use mathlib.Core.List.{List, [], _∷_}
 use mathlib.Core.Bool.{Bool}
 use lib.Dec.{leb}
 use lib.IntN.{ℤ}
-use Rattle.reading.specs.Choice.{among}
+use Rattle.reading.specs.Choice.{among, isNumberOf}
 use Rattle.reading.specs.Check.{Check, Answer, ok, refused, done, provided, _>>=_, _>>_}
 use Rattle.abif.specs.declared.numbers.Copied.{Copied}
 use Rattle.abif.specs.declared.numbers.Copied.the-variants.{Count, Refused}
 use Rattle.abif.specs.Entry.{typeOf}
 use Rattle.abif.specs.declared.lookup.ItemData.{ItemData}
 use Rattle.abif.specs.Lookup.{lookingUp}
-use Rattle.abif.specs.Element.{wholeAt, sizeOf, isElement, elementPlace, itemBytes}
+use Rattle.abif.specs.Element.{wholeAt, sizeOf, elementPlace, itemBytes}
 
 -- the types whose elements are whole numbers: byte, char, word, short, long, pString, cString
 unfoldable pub isWhole : ℕ → Bool
@@ -31,7 +31,7 @@ left q first = q .count - (first - 1)
 unfoldable pub numbersOf : ItemData → ℕ → ℕ → Check (List ℤ)
 numbersOf q first room = do
   provided (isWhole (q .«element_type»)) 10
-  provided (isElement first (q .count)) 12
+  provided (isNumberOf first (q .count)) 12
   provided (leb (left q first) room) 13
   l ← itemBytes q
   done (wholesAt (q .«element_type») (sizeOf (typeOf (q .«element_type»))) l (elementPlace q first) (left q first))

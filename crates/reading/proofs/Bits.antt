@@ -8,15 +8,13 @@ use lib.IntN.{ℤ, pos, negsuc, _-ℤ_, natAbs}
 use lib.Signed.{mag, leZ, nonNeg}
 use lib.Dec.{T, leb}
 use borrow.Author.Tests.{le-leb, lt-leb, lt-ltb, le-ltb}
+use Rattle.reading.proofs.Tests.{no}
 use Rattle.reading.specs.Number as Number
 use Rattle.reading.specs.Number.{signed}
 use Rattle.reading.proofs.Signs.{half}
 use mir.Syntax.{Width}
 use mir.Val.{Fits, SFits, toZ, ofZ, hbits, bits}
 use mir.Facts.{toZ-pos, toZ-ofZ}
-
-no : {A : Type 0} → false ≡ true → A
-no h = let z : _≡_ {A = ℕ} 0 1 = cc in absurd (omega arith)
 
 -- a number that is not negative
 module _ (w v : Width) (b : 2 ^ hbits w ≤ 2 ^ bits v) where

@@ -5,14 +5,11 @@ use mathlib.Core.Path.{_≡_, refl, sym, subst}
 use mathlib.Core.Logic.{inl, inr}
 use mathlib.Core.List.{List, [], _∷_}
 use mathlib.Core.Bool.{Bool, true, false}
-use native.Mathlib.Omega.{arith}
 use lib.Dec.{eqb}
 use borrow.Author.Tests.{eqb-true}
 use types.Run.{OneOf}
+use Rattle.reading.proofs.Tests.{no}
 use Rattle.reading.specs.Choice.{pick, among}
-
-no : {A : Type 0} → false ≡ true → A
-no h = let z : _≡_ {A = ℕ} 0 1 = cc in absurd (omega arith)
 
 -- P holds of each number of a list
 abbrev pub Each : (ℕ → Type 0) → List ℕ → Type 0

@@ -11,6 +11,7 @@ use lib.Ieee.{binary32, binary64, ofBits}
 use native.Mathlib.Nat.{add-sub-cancel-left, mul-suc, mul-le-mul-left}
 use native.Mathlib.Omega.{arith}
 use borrow.Author.Tests.{ne-eqb}
+use Rattle.reading.specs.Choice.{isNumberOf}
 use Rattle.reading.specs.Number.{be, signed}
 use Rattle.reading.specs.Check.{ok, refused, answer, holds}
 use Rattle.reading.proofs.Product.{below}
@@ -19,7 +20,7 @@ use Rattle.reading.proofs.Steps.{answer-bind, answer-must, answer-need-present}
 use Rattle.abif.specs.declared.entry.ElementType.the-variants.{Listed}
 use Rattle.abif.specs.declared.lookup.ItemData.{ItemData}
 use Rattle.abif.specs.Entry.{typeOf}
-use Rattle.abif.specs.Element.{single, double, thumb, bool, whole, wholeAt, dateAt, timeAt, valueAt, listed, isElement, elementOf}
+use Rattle.abif.specs.Element.{single, double, thumb, bool, whole, wholeAt, dateAt, timeAt, valueAt, isListed, elementOf}
 
 -- a number read from a part that it fills
 pub read-part : (w p : ℕ) (l : List ℕ) (r : ℕ) → r ≡ be w (take (p + w - p) (drop p l)) 0 → r ≡ be w l p
@@ -98,15 +99,15 @@ module _ (l : List ℕ) (p k : ℕ) (s : List ℕ) where
 
 -- element i of the item q
 module _ (s : List ℕ) (q : ItemData) (i : ℕ) where
-  pub of-raw : listed (typeOf (q .«element_type»)) ≡ false → refused 10 0 ≡ answer (elementOf q i) s
+  pub of-raw : isListed (typeOf (q .«element_type»)) ≡ false → refused 10 0 ≡ answer (elementOf q i) s
   unfolding elementOf holds
   of-raw f = simp (answer-bind, answer-must, f)
 
   module _ (w : ℕ) (t : typeOf (q .«element_type») ≡ Listed w) where
-    pub of-none : isElement i (q .count) ≡ false → refused 12 0 ≡ answer (elementOf q i) s
+    pub of-none : isNumberOf i (q .count) ≡ false → refused 12 0 ≡ answer (elementOf q i) s
     unfolding elementOf holds
     of-none f = simp (answer-bind, answer-must, t, f)
 
-    pub of-value : (p : ℕ) → p ≡ q .start + w * (i - 1) → isElement i (q .count) ≡ true → q .start + q .size ≤ length s → answer (valueAt (q .«element_type») (take (q .start + q .size) s) p) s ≡ answer (elementOf q i) s
+    pub of-value : (p : ℕ) → p ≡ q .start + w * (i - 1) → isNumberOf i (q .count) ≡ true → q .start + q .size ≤ length s → answer (valueAt (q .«element_type») (take (q .start + q .size) s) p) s ≡ answer (elementOf q i) s
     unfolding elementOf holds
     of-value p e f h = rw e (simp (answer-bind, answer-must, t, f, answer-need-present (q .start) (q .start + q .size) s h))

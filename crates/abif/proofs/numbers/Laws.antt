@@ -9,6 +9,7 @@ use native.Mathlib.Omega.{arith}
 use lib.Dec.{leb}
 use lib.IntN.{ℤ}
 use lib.ListN.{length, take, drop}
+use Rattle.reading.specs.Choice.{isNumberOf}
 use Rattle.reading.specs.Check.{ok, refused, answer, mapAnswer, holds}
 use Rattle.reading.specs.Lent.{filled}
 use Rattle.reading.proofs.Match.{among-each}
@@ -16,7 +17,7 @@ use Rattle.reading.proofs.Steps.{answer-bind, answer-must, answer-done, answer-
 use Rattle.abif.specs.declared.lookup.ItemData.{ItemData}
 use Rattle.abif.specs.declared.entry.ElementType.the-variants.{Listed}
 use Rattle.abif.specs.Entry.{typeOf}
-use Rattle.abif.specs.Element.{sizeOf, isElement, elementPlace}
+use Rattle.abif.specs.Element.{sizeOf, elementPlace}
 use Rattle.abif.specs.Numbers.{isWhole, wholesAt, left, numbersOf}
 
 pub length-wholes : (k w : ℕ) (l : List ℕ) (p n : ℕ) → length (wholesAt k w l p n) ≡ n
@@ -31,11 +32,11 @@ module _ (s : List ℕ) (q : ItemData) (first room : ℕ) where
   of-other f = simp (answer-bind, answer-must, f)
 
   module _ (t : isWhole (q .«element_type») ≡ true) where
-    pub of-none : isElement first (q .count) ≡ false → answer (numbersOf q first room) s ≡ refused 12 0
+    pub of-none : isNumberOf first (q .count) ≡ false → answer (numbersOf q first room) s ≡ refused 12 0
     unfolding numbersOf holds
     of-none f = simp (answer-bind, answer-must, t, f)
 
-    module _ (f : isElement first (q .count) ≡ true) where
+    module _ (f : isNumberOf first (q .count) ≡ true) where
       pub of-little : leb (left q first) room ≡ false → answer (numbersOf q first room) s ≡ refused 13 0
       unfolding numbersOf holds
       of-little g = simp (answer-bind, answer-must, t, f, g)
@@ -45,7 +46,7 @@ module _ (s : List ℕ) (q : ItemData) (first room : ℕ) where
       of-numbers g h = simp (answer-bind, answer-must, answer-done, t, f, g, answer-need-present (q .start) (q .start + q .size) s h)
 
 -- what is answered, and what the output then holds, where the numbers are copied
-pub of-copied : (s : List ℕ) (q : ItemData) (first : ℕ) (out out′ : List ℤ) (w p : ℕ) → p ≡ q .start + w * (first - 1) → w ≡ sizeOf (typeOf (q .«element_type»)) → isWhole (q .«element_type») ≡ true → isElement first (q .count) ≡ true → leb (left q first) (length out) ≡ true → q .start + q .size ≤ length s → out′ ≡ wholesAt (q .«element_type») w (take (q .start + q .size) s) p (left q first) ++ drop (left q first) out → (ok (left q first) ≡ mapAnswer length (answer (numbersOf q first (length out)) s)) × (out′ ≡ filled (answer (numbersOf q first (length out)) s) out)
+pub of-copied : (s : List ℕ) (q : ItemData) (first : ℕ) (out out′ : List ℤ) (w p : ℕ) → p ≡ q .start + w * (first - 1) → w ≡ sizeOf (typeOf (q .«element_type»)) → isWhole (q .«element_type») ≡ true → isNumberOf first (q .count) ≡ true → leb (left q first) (length out) ≡ true → q .start + q .size ≤ length s → out′ ≡ wholesAt (q .«element_type») w (take (q .start + q .size) s) p (left q first) ++ drop (left q first) out → (ok (left q first) ≡ mapAnswer length (answer (numbersOf q first (length out)) s)) × (out′ ≡ filled (answer (numbersOf q first (length out)) s) out)
 of-copied s q first out out′ w p a e t f g h c =
     let r = of-numbers s q first (length out) t f g h in
     (rw r (ap ok (sym (length-wholes _ _ _ _ _))), c ∙ rw (r, a, e, length-wholes))

@@ -1,6 +1,6 @@
 use mathlib.Core.Path.{_∙_, sym, ap}
 use borrow.Author.Needs.{needs}
-use Rattle.abif.specs.Element.{listed}
+use Rattle.abif.specs.Element.{isListed}
 use Rattle.abif.proofs.element.Laws.{of-raw}
 use Rattle.abif.proofs.element.element_of.Statement.{statement}
 use Rattle.abif.proofs.element.element_of.Tie as tie
@@ -27,13 +27,13 @@ returns-2 : tie.Need-returns-2
 returns-2 c =
     let t = c .before .before in
     let g = t .before .before .args in
-    of-raw (g .s .now) (g .q) (g .index) (ap listed (sym (t .type-of .ensures) ∙ c .enum-told .given .1))
+    of-raw (g .s .now) (g .q) (g .index) (ap isListed (sym (t .type-of .ensures) ∙ c .enum-told .given .1))
 
 returns-3 : tie.Need-returns-3
 returns-3 c =
     let t = c .before .before in
     let g = t .before .before .args in
-    of-raw (g .s .now) (g .q) (g .index) (ap listed (sym (t .type-of .ensures) ∙ c .enum-told2 .given .1))
+    of-raw (g .s .now) (g .q) (g .index) (ap isListed (sym (t .type-of .ensures) ∙ c .enum-told2 .given .1))
 
 pub element-of-spec : {M : Type 1} → statement M
 element-of-spec =

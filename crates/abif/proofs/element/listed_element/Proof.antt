@@ -4,7 +4,7 @@ use native.Mathlib.Omega.{arith}
 use lib.ListN.{length-take}
 use borrow.Author.Tests.{le-leb, lt-leb}
 use borrow.Author.Needs.{needs}
-use Rattle.abif.specs.Element.{isElement}
+use Rattle.reading.specs.Choice.{isNumberOf}
 use Rattle.abif.proofs.element.Laws.{inside, of-none, of-value}
 use Rattle.abif.proofs.element.listed_element.Statement.{statement}
 use Rattle.abif.proofs.element.listed_element.Tie as tie
@@ -39,7 +39,7 @@ value-at-requires c κs = let z = c .before .before .before .before .before .bef
 returns-3 : tie.Need-returns-3
 returns-3 c = let z = c .before .before .before .before .before .before .before .before in
     let g = z .args in
-    let f : isElement (g .index) (g .q .count) ≡ true = rw (le-leb 1 (g .index) (omega arith), le-leb (g .index) (g .q .count) (omega arith)) in
+    let f : isNumberOf (g .index) (g .q .count) ≡ true = rw (le-leb 1 (g .index) (omega arith), le-leb (g .index) (g .q .count) (omega arith)) in
     c .value-at .ensures (g .s .now) ∙ of-value (g .s .now) (g .q) (g .index) (g .w) (z .pre .1) _ (c .before .before .element-place .ensures .0) f (omega arith)
 
 pub listed-element-spec : {M : Type 1} → statement M

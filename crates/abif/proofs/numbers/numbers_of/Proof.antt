@@ -5,8 +5,8 @@ use native.Mathlib.Omega.{arith}
 use lib.ListN.{length, length-take}
 use borrow.Author.Tests.{le-leb, lt-leb}
 use borrow.Author.Needs.{needs}
+use Rattle.reading.specs.Choice.{isNumberOf}
 use Rattle.abif.proofs.numbers.Laws.{whole-listed, last-place, of-copied, of-other, of-none, of-little}
-use Rattle.abif.specs.Element.{isElement}
 use Rattle.abif.proofs.numbers.numbers_of.Statement.{statement}
 use Rattle.abif.proofs.numbers.numbers_of.Tie as tie
 
@@ -37,7 +37,7 @@ sub-n c = search needs
 returns-3 : tie.Need-returns-3
 returns-3 c = let w = c .before .before .before .before .before .before in
     let g = w .before .before .args in
-    let f : isElement (g .first) (g .q .count) ≡ true = rw (le-leb 1 (g .first) (omega arith), le-leb (g .first) (g .q .count) (omega arith)) in
+    let f : isNumberOf (g .first) (g .q .count) ≡ true = rw (le-leb 1 (g .first) (omega arith), le-leb (g .first) (g .q .count) (omega arith)) in
     let e = of-little (g .s .now) (g .q) (g .first) (length (g .out .now)) (sym (w .is-whole .ensures) ∙ c .before .before .before .before .before .if1 .taken) f (lt-leb (g .q .count - (g .first - 1)) (length (g .out .now)) (omega arith)) in
     (rw e, rw e)
 
@@ -82,7 +82,7 @@ returns-4 c = let y = c .before in
     let w = i .before in
     let z = w .before .before in
     let g = z .args in
-    let f : isElement (g .first) (g .q .count) ≡ true = rw (le-leb 1 (g .first) (t .before .before .if2 .left), le-leb (g .first) (g .q .count) (t .if3 .left)) in
+    let f : isNumberOf (g .first) (g .q .count) ≡ true = rw (le-leb 1 (g .first) (t .before .before .if2 .left), le-leb (g .first) (g .q .count) (t .if3 .left)) in
     let r = le-leb (g .q .count - (g .first - 1)) (length (g .out .now)) (d .before .if4 .left) in
     of-copied (g .s .now) (g .q) (g .first) (g .out .now) _ (d .width-of .result) _ (a .element-place .ensures .0) (d .width-of .ensures) (sym (w .is-whole .ensures) ∙ i .if1 .taken) f r (z .pre .within) (y .copy-of-type .ensures)
 
