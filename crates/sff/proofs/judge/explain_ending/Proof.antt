@@ -1,0 +1,46 @@
+use borrow.Author.Needs.{needs}
+use Rattle.sff.proofs.judge.explain_ending.Statement.{statement}
+use Rattle.sff.proofs.judge.explain_ending.Tie as tie
+use Rattle.sff.proofs.judge.explain_ending.Reads as reads
+use Rattle.sff.proofs.judge.explain_ending.Lts as lts
+use Rattle.sff.proofs.walk.skip_index.Reads as skip-index-reads
+
+-- src/judge.rt:32:11
+skip-index-requires : tie.Need-skip-index-requires
+skip-index-requires c κs = search needs
+
+-- src/judge.rt:33:24
+enum-known-start : tie.Need-enum-known-start
+enum-known-start c = search needs
+
+-- src/judge.rt:38:21
+enum-known-c : tie.Need-enum-known-c
+enum-known-c c = search needs
+
+-- src/judge.rt:41:17
+returns : tie.Need-returns
+returns c = ?
+
+-- src/judge.rt:44:17
+returns-2 : tie.Need-returns-2
+returns-2 c = ?
+
+-- src/judge.rt:28:1
+returns-3 : tie.Need-returns-3
+returns-3 c = ?
+
+-- src/judge.rt:28:1
+returns-4 : tie.Need-returns-4
+returns-4 c = ?
+
+pub explain-ending-spec : {M : Type 1} → statement M
+explain-ending-spec =
+    tie.close
+    (tie.spec
+    skip-index-requires
+    enum-known-start
+    enum-known-c
+    returns
+    returns-2
+    returns-3
+    returns-4)

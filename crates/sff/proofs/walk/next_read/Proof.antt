@@ -1,0 +1,67 @@
+use borrow.Author.Needs.{needs}
+use Rattle.sff.proofs.walk.next_read.Statement.{statement}
+use Rattle.sff.proofs.walk.next_read.Tie as tie
+use Rattle.sff.proofs.walk.next_read.Reads as reads
+use Rattle.sff.proofs.walk.next_read.Lts as lts
+use Rattle.sff.proofs.read.frame.Reads as frame-reads
+use Rattle.sff.proofs.walk.skip_index.Reads as skip-index-reads
+
+-- src/walk.rt:62:11
+skip-index-requires : tie.Need-skip-index-requires
+skip-index-requires c κs = search needs
+
+-- src/walk.rt:63:24
+enum-known-start : tie.Need-enum-known-start
+enum-known-start c = search needs
+
+-- src/walk.rt:64:21
+enum-known-c : tie.Need-enum-known-c
+enum-known-c c = search needs
+
+-- src/walk.rt:66:19
+frame-requires : tie.Need-frame-requires
+frame-requires c κs = ?
+
+-- src/walk.rt:67:29
+enum-known-test : tie.Need-enum-known-test
+enum-known-test c = search needs
+
+-- src/walk.rt:68:31
+enum-known-missing : tie.Need-enum-known-missing
+enum-known-missing c = search needs
+
+-- src/walk.rt:69:29
+enum-known-end : tie.Need-enum-known-end
+enum-known-end c = search needs
+
+-- src/walk.rt:58:1
+returns : tie.Need-returns
+returns c = ?
+
+-- src/walk.rt:58:1
+returns-2 : tie.Need-returns-2
+returns-2 c = ?
+
+-- src/walk.rt:58:1
+returns-3 : tie.Need-returns-3
+returns-3 c = ?
+
+-- src/walk.rt:58:1
+returns-4 : tie.Need-returns-4
+returns-4 c = ?
+
+pub next-read-spec : {M : Type 1} → statement M
+next-read-spec =
+    tie.close
+    (tie.spec
+    skip-index-requires
+    enum-known-start
+    enum-known-c
+    frame-requires
+    enum-known-test
+    enum-known-missing
+    enum-known-end
+    returns
+    returns-2
+    returns-3
+    returns-4)

@@ -1,0 +1,34 @@
+use borrow.Author.Needs.{needs}
+use Rattle.sff.proofs.walk.skip_index.Statement.{statement}
+use Rattle.sff.proofs.walk.skip_index.Tie as tie
+use Rattle.sff.proofs.walk.skip_index.Reads as reads
+use Rattle.sff.proofs.walk.skip_index.Lts as lts
+use Rattle.sff.proofs.padding.round_up.Reads as round-up-reads
+
+-- src/walk.rt:46:9
+returns : tie.Need-returns
+returns c = ?
+
+-- src/walk.rt:48:35
+cast-round-up : tie.Need-cast-round-up
+cast-round-up c = search needs
+
+-- src/walk.rt:48:26
+round-up-requires : tie.Need-round-up-requires
+round-up-requires c κs = search needs
+
+-- src/walk.rt:48:15
+add-end : tie.Need-add-end
+add-end c = ?
+
+-- src/walk.rt:50:9
+returns-2 : tie.Need-returns-2
+returns-2 c = ?
+
+-- src/walk.rt:40:1
+returns-3 : tie.Need-returns-3
+returns-3 c = ?
+
+pub skip-index-spec : {M : Type 1} → statement M
+skip-index-spec =
+    tie.close (tie.spec returns cast-round-up round-up-requires add-end returns-2 returns-3)

@@ -1,0 +1,9 @@
+pub mod Padding
+pub mod Header
+pub mod Read
+pub mod Walk
+pub mod Judge
+pub mod Contents
+pub mod Lookup
+pub mod Places
+pub mod Flow

@@ -1,0 +1,41 @@
+-- SFF: the places where the reads from number `first` on start.
+-- Assumes nothing.
+use Prim.Native.Nat.{ℕ, _-_}
+use mathlib.Core.List.{List}
+use lib.Dec.{leb}
+use Rattle.reading.specs.Choice.{isNumberOf}
+use Rattle.reading.specs.Check.{Check, Answer, ok, refused, done, provided, at, _>>=_, _>>_}
+use Rattle.sff.specs.declared.header.Header.{Header}
+use Rattle.sff.specs.declared.walk.Boundary.{Boundary}
+use Rattle.sff.specs.declared.places.Listed.{Listed}
+use Rattle.sff.specs.declared.places.Listed.the-variants.{Count, Refused}
+use Rattle.sff.specs.Header.{header}
+use Rattle.sff.specs.Walk.{front, walk}
+
+-- the number of reads from number `first` on
+abbrev pub left : Header → ℕ → ℕ
+left d first = d .reads - (first - 1)
+
+-- the n reads from read i on, behind boundary b: their checks, then too little room 13
+unfoldable pub placesFrom : Header → ℕ → ℕ → Boundary → ℕ → Check (List ℕ)
+placesFrom d n i b room = do
+  w ← at 0 (walk d n i b)
+  provided (leb n room) 13
+  done (w .starts)
+
+-- the places in a file with header d: no such read 7, the walk over the reads before it, then over those from it on
+unfoldable pub placesIn : Header → ℕ → ℕ → Check (List ℕ)
+placesIn d first room = do
+  provided (isNumberOf first (d .reads)) 7
+  v ← at 0 (walk d (first - 1) 0 (front d))
+  placesFrom d (left d first) (first - 1) (v .behind) room
+
+unfoldable pub placesReading : ℕ → ℕ → Check (List ℕ)
+placesReading first room = do
+  d ← header
+  placesIn d first room
+
+-- the answer of document 01 that each case stands for
+abbrev pub listed : Listed → Answer ℕ
+listed (Count n) = ok n
+listed (Refused n) = refused n 0

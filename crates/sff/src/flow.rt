@@ -1,0 +1,59 @@
+// The flow of a base.
+use crate::contents::wide;
+use crate::lookup::Found;
+use crate::lookup::Read;
+use crate::lookup::read_number;
+use crate::position::BasePosition;
+use crate::position::FlowPosition;
+use reading::number::byte;
+ghost use mathlib.Core.Path.{_≡_};
+ghost use Prim.Native.Nat.{_+_, _≤_, _<_};
+ghost use lib.ListN.{length};
+ghost use Rattle.reading.specs.Check.{answer};
+ghost use Rattle.sff.specs.Flow.{stepSum, flowOf, flowReading, flow};
+
+// The position of a base's flow, or the refusal.
+pub enum Flow {
+    At(FlowPosition),
+    Refused(u8),
+}
+
+fn sum_of(steps: &[u8]) -> u64
+    requires { ⌜ length (now steps) < 0x100000000 ⌝ }
+    ensures { λ r. ⌜ r ≡ stepSum (now (steps .entry)) 0 (length (now (steps .entry))) ⌝ }
+{
+    let n = steps.len();
+    let mut sum = 0;
+    let mut i = 0;
+    while i < n {
+        sum += wide(byte(steps, i));
+        i += 1;
+    }
+    sum
+}
+
+fn flow_in(s: &[u8], r: Read, base: BasePosition) -> Flow
+    requires { ⌜ r .«steps_start» + r .bases ≤ length (now s) ⌝ }
+    ensures { λ f. ⌜ flow f ≡ answer (flowOf r base) (now (s .entry)) ⌝ }
+{
+    let i = base.0;
+    if i < 1 {
+        return Flow::Refused(12);
+    }
+    if (r.bases as u64) < i {
+        return Flow::Refused(12);
+    }
+    let start = r.steps_start;
+    let end = start + i as usize;
+    Flow::At(FlowPosition(sum_of(&s[start..end])))
+}
+
+// The flow of base `base` of read k.
+pub fn flow_of_base(s: &[u8], k: u64, base: BasePosition) -> Flow
+    ensures { λ r. ⌜ flow r ≡ answer (flowReading k base) (now (s .entry)) ⌝ }
+{
+    match read_number(s, k) {
+        Found::Refused(n) => Flow::Refused(n),
+        Found::At(r) => flow_in(s, r, base),
+    }
+}

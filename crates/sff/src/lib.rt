@@ -1,0 +1,11 @@
+// SFF files over lent bytes: judging, the header, and reads by number or by place.
+pub(crate) mod contents;
+pub mod flow;
+pub mod header;
+pub mod judge;
+pub mod lookup;
+pub(crate) mod padding;
+pub mod places;
+pub mod position;
+pub(crate) mod read;
+pub(crate) mod walk;

@@ -1,0 +1,103 @@
+// The places where reads start, many at once.
+use crate::header::Header;
+use crate::header::Opened;
+use crate::header::read_fields;
+use crate::walk::Boundary;
+use crate::walk::Step;
+use crate::walk::Walked;
+use crate::walk::next_read;
+use crate::walk::walk;
+ghost use mathlib.Core.Path.{_≡_};
+ghost use mathlib.Core.List.{List, _++_};
+ghost use Prim.Native.Nat.{ℕ, _+_, _≤_, _<_};
+ghost use lib.ListN.{length, drop};
+ghost use Rattle.reading.specs.Check.{run, passed, answer, mapAnswer};
+ghost use Rattle.reading.specs.Lent.{filled};
+ghost use Rattle.sff.specs.Walk.{Passage, walk as walking};
+ghost use Rattle.sff.specs.Places.{placesFrom, placesIn, placesReading, listed};
+
+// How many places were written, or the refusal.
+pub enum Listed {
+    Count(u64),
+    Refused(u8),
+}
+
+// The places of n reads behind boundary b, which a walk has found sound, at the output's front.
+fn write_places(s: &[u8], d: Header, n: usize, b: Boundary, out: &mut [u64])
+    requires { ⌜ (b .position ≤ length (now s)) × (n ≤ length (now out)) × ((i : ℕ) × (w : Passage) × (run (walking d n i b) (now s) ≡ passed w)) ⌝ }
+    ensures { λ _. ⌜ ((i : ℕ) (w : Passage) → run (walking d n i b) (now (s .entry)) ≡ passed w → now (out .exit) ≡ w .starts ++ drop n (now (out .entry))) ⌝ }
+{
+    let mut here = b;
+    let mut i = 0;
+    while i < n {
+        match next_read(s, d, here) {
+            Step::Next(start, behind) => {
+                out[i] = start as u64;
+                here = behind;
+                i += 1;
+            }
+            Step::Bad(_) => {
+                return;
+            }
+            Step::Short(_, _) => {
+                return;
+            }
+            Step::NoIndex(_, _) => {
+                return;
+            }
+        }
+    }
+}
+
+// The n reads from read i on, counted from 0: checked whole, then written.
+fn places_from(s: &[u8], d: Header, n: usize, i: usize, b: Boundary, out: &mut [u64]) -> Listed
+    requires { ⌜ (b .position ≤ length (now s)) × (i + n < 0x8000000000000000) ⌝ }
+    ensures { λ r. ⌜ listed r ≡ mapAnswer length (answer (placesFrom d n i b (length (now (out .entry)))) (now (s .entry))) ⌝ }
+    ensures { λ _. ⌜ now (out .exit) ≡ filled (answer (placesFrom d n i b (length (now (out .entry)))) (now (s .entry))) (now (out .entry)) ⌝ }
+{
+    match walk(s, d, n, i, b) {
+        Walked::Bad(test, _) => Listed::Refused(test.number),
+        Walked::Short(_, _, _) => Listed::Refused(1),
+        Walked::Behind(_) => {
+            if out.len() < n {
+                return Listed::Refused(13);
+            }
+            write_places(s, d, n, b, out);
+            Listed::Count(n as u64)
+        }
+    }
+}
+
+fn places_in(s: &[u8], d: Header, first: u64, out: &mut [u64]) -> Listed
+    requires { ⌜ d .«header_length» ≤ length (now s) ⌝ }
+    ensures { λ r. ⌜ listed r ≡ mapAnswer length (answer (placesIn d first (length (now (out .entry)))) (now (s .entry))) ⌝ }
+    ensures { λ _. ⌜ now (out .exit) ≡ filled (answer (placesIn d first (length (now (out .entry)))) (now (s .entry))) (now (out .entry)) ⌝ }
+{
+    if first < 1 {
+        return Listed::Refused(7);
+    }
+    if (d.reads as u64) < first {
+        return Listed::Refused(7);
+    }
+    let before = (first - 1) as usize;
+    let front = Boundary {
+        position: d.header_length as usize,
+        met: false,
+    };
+    match walk(s, d, before, 0, front) {
+        Walked::Bad(test, _) => Listed::Refused(test.number),
+        Walked::Short(_, _, _) => Listed::Refused(1),
+        Walked::Behind(b) => places_from(s, d, d.reads as usize - before, before, b, out),
+    }
+}
+
+// The places of the reads from number `first` on, as many as are left, at the output's front.
+pub fn read_places(s: &[u8], first: u64, out: &mut [u64]) -> Listed
+    ensures { λ r. ⌜ listed r ≡ mapAnswer length (answer (placesReading first (length (now (out .entry)))) (now (s .entry))) ⌝ }
+    ensures { λ _. ⌜ now (out .exit) ≡ filled (answer (placesReading first (length (now (out .entry)))) (now (s .entry))) (now (out .entry)) ⌝ }
+{
+    match read_fields(s) {
+        Opened::Refused(n) => Listed::Refused(n),
+        Opened::At(d) => places_in(s, d, first, out),
+    }
+}

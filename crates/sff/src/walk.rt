@@ -1,0 +1,106 @@
+// The walk over the reads, from boundary to boundary.
+use crate::header::Header;
+use crate::padding::round_up;
+use crate::read::Framed;
+use crate::read::frame;
+use reading::check::Test;
+ghost use mathlib.Core.Path.{_≡_};
+ghost use Prim.Native.Nat.{ℕ, _+_, _≤_, _<_};
+ghost use lib.ListN.{length};
+ghost use Rattle.reading.specs.Check.{run};
+ghost use Rattle.sff.specs.Walk.{skipIndex, nextRead, walkPast, skipped, stepped, past};
+
+// A boundary between reads: its position, and whether the index has been met.
+pub(crate) struct Boundary {
+    pub position: usize,
+    pub met: bool,
+}
+
+// The boundary behind an index, if one starts there, or the bytes of it that are missing, by their start and end.
+pub(crate) enum Skipped {
+    To(Boundary),
+    Short(usize, usize),
+}
+
+// The next read's place, with the boundary behind it; or the test that fails, or the bytes that are missing, of the read or of the index.
+pub(crate) enum Step {
+    Next(usize, Boundary),
+    Bad(Test),
+    Short(usize, usize),
+    NoIndex(usize, usize),
+}
+
+// The boundary behind the reads; or the same refusals, with the read, or 0 for the index.
+pub(crate) enum Walked {
+    Behind(Boundary),
+    Bad(Test, usize),
+    Short(usize, usize, usize),
+}
+
+pub(crate) fn skip_index(s: &[u8], d: Header, b: Boundary) -> Skipped
+    requires { ⌜ b .position ≤ length (now s) ⌝ }
+    ensures { λ r. ⌜ skipped r ≡ run (skipIndex d b) (now (s .entry)) ⌝ }
+{
+    let position = b.position;
+    if (position as u64) != d.index_offset {
+        return Skipped::To(b);
+    }
+    let end = position + round_up(d.index_length as usize);
+    if s.len() < end {
+        return Skipped::Short(position, end);
+    }
+    Skipped::To(Boundary {
+        position: end,
+        met: true,
+    })
+}
+
+pub(crate) fn next_read(s: &[u8], d: Header, b: Boundary) -> Step
+    requires { ⌜ b .position ≤ length (now s) ⌝ }
+    ensures { λ r. ⌜ ((i : ℕ) → stepped i r ≡ run (nextRead d i b) (now (s .entry))) ⌝ }
+{
+    match skip_index(s, d, b) {
+        Skipped::Short(start, end) => Step::NoIndex(start, end),
+        Skipped::To(c) => {
+            let start = c.position;
+            match frame(s, d.flows, start) {
+                Framed::Bad(test) => Step::Bad(test),
+                Framed::Short(missing, end) => Step::Short(missing, end),
+                Framed::End(end) => Step::Next(
+                    start,
+                    Boundary {
+                        position: end,
+                        met: c.met,
+                    },
+                ),
+            }
+        }
+    }
+}
+
+// The n reads from read i on, counted from 0.
+pub(crate) fn walk(s: &[u8], d: Header, n: usize, i: usize, b: Boundary) -> Walked
+    requires { ⌜ (b .position ≤ length (now s)) × (i + n < 0x8000000000000000) ⌝ }
+    ensures { λ r. ⌜ past r ≡ run (walkPast d n i b) (now (s .entry)) ⌝ }
+{
+    let mut here = b;
+    let mut j = 0;
+    while j < n {
+        match next_read(s, d, here) {
+            Step::Bad(test) => {
+                return Walked::Bad(test, i + j + 1);
+            }
+            Step::Short(start, end) => {
+                return Walked::Short(start, end, i + j + 1);
+            }
+            Step::NoIndex(start, end) => {
+                return Walked::Short(start, end, 0);
+            }
+            Step::Next(_, behind) => {
+                here = behind;
+                j += 1;
+            }
+        }
+    }
+    Walked::Behind(here)
+}
