@@ -15,15 +15,34 @@ pub number-same : (w : ℕ) (d e : ℕ → ℕ) → ((i : ℕ) → i < w → d i
 number-same zero d e h = refl
 number-same (suc w) d e h = rw (number-same w d e (λ i q. h i (omega arith)), h w (omega arith))
 
--- so a number that fills a part of the bytes is the one that stands there
+-- so a number that stands in a part of the bytes is the one that stands there in them
+module _ (w p n q : ℕ) (s : List ℕ) (h : q + w ≤ n) where
+  in-part : (k : ℕ) → k < w → getD (take n (drop p s)) (q + k) 0 ≡ getD s (p + q + k) 0
+  in-part k l = getD-take n (drop p s) (q + k) 0 (omega arith) ∙ getD-drop p s (q + k) 0 ∙ ap (λ (j : ℕ). getD s j 0) (omega arith)
+
+  pub be-in-part : be w (take n (drop p s)) q ≡ be w s (p + q)
+  unfolding be
+  be-in-part = number-same w _ _ (λ i l. in-part (w - suc i) (omega arith))
+
+  pub le-in-part : le w (take n (drop p s)) q ≡ le w s (p + q)
+  unfolding le
+  le-in-part = number-same w _ _ (λ i l. in-part i l)
+
+-- also where it fills the part
 module _ (w p : ℕ) (s : List ℕ) where
   pub be-part : be w (take w (drop p s)) 0 ≡ be w s p
-  unfolding be
-  be-part = number-same w _ _ (λ i h. getD-take w (drop p s) (0 + (w - suc i)) 0 (omega arith) ∙ getD-drop p s (0 + (w - suc i)) 0 ∙ ap (λ (k : ℕ). getD s k 0) (omega arith))
+  be-part = be-in-part w p w 0 s (omega arith) ∙ ap (be w s) (omega arith)
 
   pub le-part : le w (take w (drop p s)) 0 ≡ le w s p
-  unfolding le
-  le-part = number-same w _ _ (λ i h. getD-take w (drop p s) (0 + i) 0 (omega arith) ∙ getD-drop p s (0 + i) 0 ∙ ap (λ (k : ℕ). getD s k 0) (omega arith))
+  le-part = le-in-part w p w 0 s (omega arith) ∙ ap (le w s) (omega arith)
+
+-- and where the part is a beginning
+module _ (w n p : ℕ) (s : List ℕ) (h : p + w ≤ n) where
+  pub be-taken : be w (take n s) p ≡ be w s p
+  be-taken = be-in-part w 0 n p s h ∙ ap (be w s) (omega arith)
+
+  pub le-taken : le w (take n s) p ≡ le w s p
+  le-taken = le-in-part w 0 n p s h ∙ ap (le w s) (omega arith)
 
 -- bytes past the end read as 0
 number-zero : (w : ℕ) (d : ℕ → ℕ) → ((i : ℕ) → d i ≡ 0) → number w d ≡ 0

@@ -1,11 +1,11 @@
 // Lengths rounded up to a multiple of 8.
 ghost use mathlib.Core.Path.{_≡_};
-ghost use Prim.Native.Nat.{_<_};
+ghost use Prim.Native.Nat.{_+_, _<_};
 ghost use Rattle.sff.specs.Padding.{padded};
 
 pub(crate) fn round_up(n: usize) -> usize
     requires { ⌜ n < 0x8000000000000000 ⌝ }
-    ensures { λ r. ⌜ r ≡ padded n ⌝ }
+    ensures { λ r. ⌜ (r ≡ padded n) × (r < n + 8) ⌝ }
 {
     n + (8 - n % 8) % 8
 }

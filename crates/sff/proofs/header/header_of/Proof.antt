@@ -1,3 +1,4 @@
+use Rattle.sff.specs.Header.{headerOf}
 use borrow.Author.Needs.{needs}
 use Rattle.sff.proofs.header.header_of.Statement.{statement}
 use Rattle.sff.proofs.header.header_of.Tie as tie
@@ -33,7 +34,8 @@ be16-requires-3 c κs = search needs
 
 -- src/header.rt:41:1
 returns : tie.Need-returns
-returns c = ?
+unfolding headerOf
+returns c = cc
 
 pub header-of-spec : {M : Type 1} → statement M
 header-of-spec =

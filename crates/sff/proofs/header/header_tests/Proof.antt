@@ -1,3 +1,6 @@
+use Rattle.sff.specs.Header.{headerCheck}
+use Rattle.reading.specs.Check.{run}
+use Rattle.reading.proofs.Tests.{tests}
 use borrow.Author.Needs.{needs}
 use Rattle.sff.proofs.header.header_tests.Statement.{statement}
 use Rattle.sff.proofs.header.header_tests.Tie as tie
@@ -11,15 +14,18 @@ cast-t10 c = search needs
 
 -- src/header.rt:111:9
 returns : tie.Need-returns
-returns c = ?
+unfolding headerCheck run
+returns c = search tests
 
 -- src/header.rt:118:9
 returns-2 : tie.Need-returns-2
-returns-2 c = ?
+unfolding headerCheck run
+returns-2 c = search tests
 
 -- src/header.rt:125:9
 returns-3 : tie.Need-returns-3
-returns-3 c = ?
+unfolding headerCheck run
+returns-3 c = search tests
 
 -- src/header.rt:131:34
 cast-round-up : tie.Need-cast-round-up
@@ -47,11 +53,13 @@ cast-if4 c = search needs
 
 -- src/header.rt:133:9
 returns-4 : tie.Need-returns-4
-returns-4 c = ?
+unfolding headerCheck run
+returns-4 c = search (tests, ← c .before .before .round-up .ensures .0)
 
 -- src/header.rt:83:1
 returns-5 : tie.Need-returns-5
-returns-5 c = ?
+unfolding headerCheck run
+returns-5 c = search (tests, ← c .before .before .round-up .ensures .0)
 
 pub header-tests-spec : {M : Type 1} → statement M
 header-tests-spec =

@@ -1,3 +1,7 @@
+use mathlib.Core.Path.{_∙_, sym, ap}
+use Rattle.reading.specs.Check.{plain}
+use Rattle.reading.proofs.Cut.{answer-plain}
+use Rattle.sff.specs.Header.{header, read}
 use borrow.Author.Needs.{needs}
 use Rattle.sff.proofs.header.read_fields.Statement.{statement}
 use Rattle.sff.proofs.header.read_fields.Tie as tie
@@ -23,15 +27,15 @@ enum-told c = search needs
 
 -- src/header.rt:167:1
 returns : tie.Need-returns
-returns c = ?
+returns c = ap plain (sym (ap read (c .before .d .given .1)) ∙ c .before .before .before .read-header .ensures) ∙ sym (answer-plain header _)
 
 -- src/header.rt:167:1
 returns-2 : tie.Need-returns-2
-returns-2 c = ?
+returns-2 c = ap plain (sym (ap read (c .before .t .given .1)) ∙ c .before .before .before .read-header .ensures) ∙ sym (answer-plain header _)
 
 -- src/header.rt:167:1
 returns-3 : tie.Need-returns-3
-returns-3 c = ?
+returns-3 c = ap plain (sym (ap read (c .enum-told .given .1)) ∙ c .before .before .read-header .ensures) ∙ sym (answer-plain header _)
 
 pub read-fields-spec : {M : Type 1} → statement M
 read-fields-spec =

@@ -1,3 +1,7 @@
+use native.Mathlib.Omega.{arith}
+use lib.ListN.{length-take}
+use borrow.Author.Needs.{needs}
+use Rattle.sff.proofs.header.Laws.{header-short, header-failed, header-index, header-cut, header-good}
 use borrow.Author.Needs.{needs}
 use Rattle.sff.proofs.header.read_header.Statement.{statement}
 use Rattle.sff.proofs.header.read_header.Tie as tie
@@ -11,11 +15,11 @@ use Rattle.sff.proofs.header.index_tests.Reads as index-tests-reads
 
 -- src/header.rt:146:9
 returns : tie.Need-returns
-returns c = ?
+returns c = header-short _ (search needs)
 
 -- src/header.rt:148:9
 slice-aggregate-h : tie.Need-slice-aggregate-h
-slice-aggregate-h c = ?
+slice-aggregate-h c = simp length-take (omega arith)
 
 -- src/header.rt:149:9
 be32-requires : tie.Need-be32-requires
@@ -43,7 +47,10 @@ enum-known-t c = search needs
 
 -- src/header.rt:154:9
 returns-2 : tie.Need-returns-2
-returns-2 c = ?
+returns-2 c = 
+    let a = c .before .before .before in
+    let s = a .before .before .before .before .before .before .before .before .args .s .now in
+    header-failed s (search needs) _ (rw (← a .before .before .before .before .be32 .ensures, ← a .before .before .before .be322 .ensures, ← a .before .before .byte .ensures, ← a .before .header-of .ensures, ← a .header-tests .ensures s,  c .before .t .given .1))
 
 enum-told : tie.Need-enum-told
 enum-told c = search needs
@@ -58,7 +65,11 @@ enum-known-t-2 c = search needs
 
 -- src/header.rt:157:9
 returns-3 : tie.Need-returns-3
-returns-3 c = ?
+returns-3 c =
+    let b = c .before .before .before in
+    let a = b .before .before .before in
+    let s = a .before .before .before .before .before .before .before .before .args .s .now in
+    header-index s (search needs) _ (rw (← a .before .before .before .before .be32 .ensures, ← a .before .before .before .be322 .ensures, ← a .before .before .byte .ensures, ← a .before .header-of .ensures, ← a .header-tests .ensures s,  b .before .enum-told .given .1)) (rw (← a .before .header-of .ensures, ← b .index-tests .ensures s, c .before .t2 .given .1))
 
 enum-told-2 : tie.Need-enum-told-2
 enum-told-2 c = search needs
@@ -69,11 +80,19 @@ cast-end c = search needs
 
 -- src/header.rt:161:9
 returns-4 : tie.Need-returns-4
-returns-4 c = ?
+returns-4 c =
+    let b = c .before .before .before .before in
+    let a = b .before .before .before in
+    let s = a .before .before .before .before .before .before .before .before .args .s .now in
+    rw (a .before .header-of .ensures) (header-cut s (search needs) (rw (← a .before .before .before .before .be32 .ensures, ← a .before .before .before .be322 .ensures, ← a .before .before .byte .ensures, ← a .before .header-of .ensures, ← a .header-tests .ensures s,  b .before .enum-told .given .1)) (rw (← a .before .header-of .ensures, ← b .index-tests .ensures s, c .before .before .enum-told2 .given .1)) (rw (← a .before .header-of .ensures) (search needs)))
 
 -- src/header.rt:142:1
 returns-5 : tie.Need-returns-5
-returns-5 c = ?
+returns-5 c =
+    let b = c .before .before .before .before in
+    let a = b .before .before .before in
+    let s = a .before .before .before .before .before .before .before .before .args .s .now in
+    rw (a .before .header-of .ensures) (header-good s (search needs) (rw (← a .before .before .before .before .be32 .ensures, ← a .before .before .before .be322 .ensures, ← a .before .before .byte .ensures, ← a .before .header-of .ensures, ← a .header-tests .ensures s,  b .before .enum-told .given .1)) (rw (← a .before .header-of .ensures, ← b .index-tests .ensures s, c .before .before .enum-told2 .given .1)) (rw (← a .before .header-of .ensures) (search needs)))
 
 pub read-header-spec : {M : Type 1} → statement M
 read-header-spec =

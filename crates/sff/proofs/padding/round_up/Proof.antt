@@ -1,3 +1,6 @@
+use native.Mathlib.Omega.{arith}
+use Rattle.sff.specs.Padding.{padded, padding}
+use mathlib.Core.Path.{refl}
 use borrow.Author.Needs.{needs}
 use Rattle.sff.proofs.padding.round_up.Statement.{statement}
 use Rattle.sff.proofs.padding.round_up.Tie as tie
@@ -14,7 +17,8 @@ add-result c = search needs
 
 -- src/padding.rt:6:1
 returns : tie.Need-returns
-returns c = ?
+unfolding padded padding
+returns c = (refl, omega arith)
 
 pub round-up-spec : {M : Type 1} → statement M
 round-up-spec = tie.close (tie.spec sub-result add-result returns)

@@ -1,3 +1,6 @@
+use native.Mathlib.Omega.{arith}
+use borrow.Author.Needs.{needs}
+use Rattle.sff.proofs.read.Laws.{frame-short, frame-bad, frame-header, frame-data, frame-end}
 use borrow.Author.Needs.{needs}
 use Rattle.sff.proofs.read.frame.Statement.{statement}
 use Rattle.sff.proofs.read.frame.Tie as tie
@@ -13,7 +16,7 @@ add-fixed c = search needs
 
 -- src/read.rt:56:9
 returns : tie.Need-returns
-returns c = ?
+returns c = frame-short _ _ _ (search needs)
 
 -- src/read.rt:58:13
 sub-h : tie.Need-sub-h
@@ -61,7 +64,10 @@ round-up-requires c κs = search needs
 
 -- src/read.rt:70:9
 returns-2 : tie.Need-returns-2
-returns-2 c = ?
+returns-2 c =
+    let r = c .before in
+    let g = r .before .before .before .before .before .before .before .args in
+    frame-bad (g .flows) (g .p) (g .s .now) (search needs) _ _ _ (r .before .before .before .be16 .ensures) (r .before .before .be162 .ensures) (r .before .be32 .ensures) _ (r .round-up .ensures .0) (c .if2 .taken)
 
 -- src/read.rt:76:17
 add-start : tie.Need-add-start
@@ -69,7 +75,10 @@ add-start c = search needs
 
 -- src/read.rt:78:9
 returns-3 : tie.Need-returns-3
-returns-3 c = ?
+returns-3 c =
+    let r = c .before .before in
+    let g = r .before .before .before .before .before .before .before .args in
+    frame-header (g .flows) (g .p) (g .s .now) (search needs) _ _ _ (r .before .before .before .be16 .ensures) (r .before .before .be162 .ensures) (r .before .be32 .ensures) _ (r .round-up .ensures .0) (c .before .if2 .left) (search needs)
 
 -- src/read.rt:80:32
 mul-round-up : tie.Need-mul-round-up
@@ -89,15 +98,21 @@ round-up-requires-2 c κs = search needs
 
 -- src/read.rt:80:15
 add-end : tie.Need-add-end
-add-end c = ?
+add-end c = omega arith
 
 -- src/read.rt:82:9
 returns-4 : tie.Need-returns-4
-returns-4 c = ?
+returns-4 c =
+    let r = c .before .before .before .before in
+    let g = r .before .before .before .before .before .before .before .args in
+    frame-data (g .flows) (g .p) (g .s .now) (search needs) _ _ _ (r .before .before .before .be16 .ensures) (r .before .before .be162 .ensures) (r .before .be32 .ensures) _ (r .round-up .ensures .0) (c .before .before .before .if2 .left) (search needs) _ (rw (c .before .round-up2 .ensures .0)) (search needs)
 
 -- src/read.rt:50:1
 returns-5 : tie.Need-returns-5
-returns-5 c = ?
+returns-5 c =
+    let r = c .before .before .before .before in
+    let g = r .before .before .before .before .before .before .before .args in
+    frame-end (g .flows) (g .p) (g .s .now) (search needs) _ _ _ (r .before .before .before .be16 .ensures) (r .before .before .be162 .ensures) (r .before .be32 .ensures) _ (r .round-up .ensures .0) (c .before .before .before .if2 .left) (search needs) _ (rw (c .before .round-up2 .ensures .0)) (search needs)
 
 pub frame-spec : {M : Type 1} → statement M
 frame-spec =

@@ -1,3 +1,4 @@
+use Rattle.sff.specs.Read.{readHeaderOf}
 use borrow.Author.Needs.{needs}
 use Rattle.sff.proofs.read.read_header_of.Statement.{statement}
 use Rattle.sff.proofs.read.read_header_of.Tie as tie
@@ -60,7 +61,8 @@ be16-requires-6 c κs = search needs
 
 -- src/read.rt:33:1
 returns : tie.Need-returns
-returns c = ?
+unfolding readHeaderOf
+returns c = cc
 
 pub read-header-of-spec : {M : Type 1} → statement M
 read-header-of-spec =

@@ -1,3 +1,8 @@
+use mathlib.Core.Path.{sym, _∙_, ap}
+use Rattle.reading.proofs.Cut.{run-ok}
+use Rattle.sff.specs.Read.{framed}
+use Rattle.sff.specs.Walk.{skipped}
+use Rattle.sff.proofs.walk.Laws.{skip-within, next-cut, next-failed, next-short, next-passed}
 use borrow.Author.Needs.{needs}
 use Rattle.sff.proofs.walk.next_read.Statement.{statement}
 use Rattle.sff.proofs.walk.next_read.Tie as tie
@@ -20,7 +25,9 @@ enum-known-c c = search needs
 
 -- src/walk.rt:66:19
 frame-requires : tie.Need-frame-requires
-frame-requires c κs = ?
+frame-requires c κs =
+    let k = c .before .before .before in
+    skip-within _ _ _ _ (k .before .before .pre) (run-ok _ _ _ (sym (k .skip-index .ensures) ∙ ap skipped (c .before .c .given .1)))
 
 -- src/walk.rt:67:29
 enum-known-test : tie.Need-enum-known-test
@@ -36,19 +43,28 @@ enum-known-end c = search needs
 
 -- src/walk.rt:58:1
 returns : tie.Need-returns
-returns c = ?
+returns c i = next-cut _ _ _ i _ (sym (c .before .before .before .skip-index .ensures) ∙ ap skipped (c .before .start .given .1))
 
 -- src/walk.rt:58:1
 returns-2 : tie.Need-returns-2
-returns-2 c = ?
+returns-2 c i =
+    let f = c .before .before .before in
+    let k = f .before .before .before .before in
+    next-failed _ _ _ i _ (sym (k .skip-index .ensures) ∙ ap skipped (f .before .before .c .given .1)) _ (sym (f .frame .ensures) ∙ ap framed (c .before .test .given .1))
 
 -- src/walk.rt:58:1
 returns-3 : tie.Need-returns-3
-returns-3 c = ?
+returns-3 c i =
+    let f = c .before .before .before in
+    let k = f .before .before .before .before in
+    next-short _ _ _ i _ (sym (k .skip-index .ensures) ∙ ap skipped (f .before .before .c .given .1)) _ (sym (f .frame .ensures) ∙ ap framed (c .before .missing .given .1))
 
 -- src/walk.rt:58:1
 returns-4 : tie.Need-returns-4
-returns-4 c = ?
+returns-4 c i =
+    let f = c .before .before .before in
+    let k = f .before .before .before .before in
+    next-passed _ _ _ i _ (sym (k .skip-index .ensures) ∙ ap skipped (f .before .before .c .given .1)) _ (sym (f .frame .ensures) ∙ ap framed (c .before .end .given .1))
 
 pub next-read-spec : {M : Type 1} → statement M
 next-read-spec =

@@ -1,0 +1,55 @@
+-- The header, from the answers of its parts.
+-- Assumes nothing.
+use Prim.Native.Nat.{ℕ, _≤_, _<_}
+use mathlib.Core.Path.{_≡_, sym, _∙_, ap, subst}
+use mathlib.Core.List.{List}
+use lib.ListN.{length, take}
+use Rattle.reading.specs.declared.check.Test.{Test}
+use Rattle.reading.specs.Number.{be}
+use Rattle.reading.specs.Check.{Outcome, passed, failed, short, ok, run, answer}
+use Rattle.reading.proofs.Steps.{run-bind, run-done, run-need-present, run-need-absent}
+use Rattle.reading.proofs.Passed.{bind-ok, need-ok, done-ok}
+use Rattle.sff.specs.declared.header.Header.{Header}
+use Rattle.sff.specs.Header.{headerOf, headerCheck, indexCheck, header}
+
+-- the header's fields, and what the two groups of tests find
+abbrev pub fields : List ℕ → Header
+fields s = headerOf (take 31 s)
+
+abbrev pub tested : List ℕ → Outcome (Unit {0})
+tested s = run (headerCheck (be 4 (take 31 s) 0) (be 4 (take 31 s) 4) (be 1 (take 31 s) 30) (fields s)) s
+
+abbrev pub index : List ℕ → Outcome (Unit {0})
+index s = run (indexCheck (fields s)) s
+
+module _ (s : List ℕ) where
+  pub header-short : length s < 31 → short (record { start = 0; end = 31 }) 0 ≡ run header s
+  unfolding header
+  header-short h = simp (run-bind, run-need-absent 0 31 s h)
+
+  module _ (h : 31 ≤ length s) where
+    pub header-failed : (t : Test) → tested s ≡ failed t 0 → failed t 0 ≡ run header s
+    unfolding header
+    header-failed t m = simp (run-need-present 0 31 s h, run-bind, m)
+
+    pub header-index : (t : Test) → tested s ≡ passed tt → index s ≡ failed t 0 → failed t 0 ≡ run header s
+    unfolding header
+    header-index t m i = simp (run-need-present 0 31 s h, run-bind, m, i)
+
+    pub header-cut : tested s ≡ passed tt → index s ≡ passed tt → length s < fields s .«header_length» → short (record { start = 0; end = fields s .«header_length» }) 0 ≡ run header s
+    unfolding header
+    header-cut m i l = simp (run-need-present 0 31 s h, run-bind, m, i, run-need-absent 0 (fields s .«header_length») s l)
+
+    pub header-good : tested s ≡ passed tt → index s ≡ passed tt → fields s .«header_length» ≤ length s → passed (fields s) ≡ run header s
+    unfolding header
+    header-good m i l = simp (run-need-present 0 31 s h, run-bind, m, i, run-need-present 0 (fields s .«header_length») s l, run-done)
+
+-- a header that was answered is there
+pub header-there : (s : List ℕ) (d : Header) → answer header s ≡ ok d → d .«header_length» ≤ length s
+unfolding header
+header-there s d w =
+    let a = bind-ok _ _ s d w in
+    let b = bind-ok _ _ s d (a .2) in
+    let c = bind-ok _ _ s d (b .2) in
+    let e = bind-ok _ _ s d (c .2) in
+    subst (λ (x : Header). x .«header_length» ≤ length s) (done-ok _ _ s (e .2)) (need-ok _ _ s (e .0) (e .1) .0)
