@@ -1,9 +1,8 @@
 -- SFF: read k, and the read that starts at a place.
 -- Assumes nothing.
-use Prim.Native.Nat.{ℕ, _+_, _-_, _*_}
+use Prim.Native.Nat.{ℕ, _+_, _*_}
 use mathlib.Core.List.{List}
-use Rattle.reading.specs.Choice.{isNumberOf}
-use Rattle.reading.specs.Check.{Check, Answer, ok, refused, done, provided, at, _>>=_, _>>_}
+use Rattle.reading.specs.Check.{Check, Answer, ok, refused, done, _>>=_, _>>_}
 use Rattle.reading.specs.Part.{Span}
 use Rattle.sff.specs.declared.header.Header.{Header}
 use Rattle.sff.specs.declared.read.ReadHeader.{ReadHeader}
@@ -14,7 +13,7 @@ use Rattle.sff.specs.declared.lookup.Found.{Found}
 use Rattle.sff.specs.declared.lookup.Found.the-variants.{At, Refused}
 use Rattle.sff.specs.Header.{header}
 use Rattle.sff.specs.Read.{present}
-use Rattle.sff.specs.Walk.{front, skipIndex, walk}
+use Rattle.sff.specs.Walk.{skipIndex, beforeRead}
 use Rattle.sff.specs.Contents.{clipsCheck, stepsCheck, flowsStart, stepsStart, lettersStart, qualitiesStart, firstBase, lastBase, insert}
 
 -- all that is told of a read with these header fields, in a file of f flows
@@ -53,13 +52,12 @@ readFrom f p = do
   r ← present f p
   readContents f (r .fields) (r .upTo)
 
--- read k of a file with header d: no such read 7, then the checks as far as that read
+-- read k of a file with header d: the checks as far as that read, then its contents
 unfoldable pub readIn : Header → ℕ → Check Read
 readIn d k = do
-  provided (isNumberOf k (d .reads)) 7
-  w ← at 0 (walk d (k - 1) 0 (front d))
-  b ← skipIndex d (w .behind)
-  readFrom (d .flows) (b .position)
+  b ← beforeRead d k
+  c ← skipIndex d b
+  readFrom (d .flows) (c .position)
 
 unfoldable pub readReading : ℕ → Check Read
 readReading k = do

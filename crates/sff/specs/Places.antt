@@ -3,14 +3,13 @@
 use Prim.Native.Nat.{ℕ, _-_}
 use mathlib.Core.List.{List}
 use lib.Dec.{leb}
-use Rattle.reading.specs.Choice.{isNumberOf}
 use Rattle.reading.specs.Check.{Check, Answer, ok, refused, done, provided, at, _>>=_, _>>_}
 use Rattle.sff.specs.declared.header.Header.{Header}
 use Rattle.sff.specs.declared.walk.Boundary.{Boundary}
 use Rattle.sff.specs.declared.places.Listed.{Listed}
 use Rattle.sff.specs.declared.places.Listed.the-variants.{Count, Refused}
 use Rattle.sff.specs.Header.{header}
-use Rattle.sff.specs.Walk.{front, walk}
+use Rattle.sff.specs.Walk.{walk, beforeRead}
 
 -- the number of reads from number `first` on
 abbrev pub left : Header → ℕ → ℕ
@@ -23,12 +22,11 @@ placesFrom d n i b room = do
   provided (leb n room) 13
   done (w .starts)
 
--- the places in a file with header d: no such read 7, the walk over the reads before it, then over those from it on
+-- the places in a file with header d: the walk over the reads before number `first`, then over those from it on
 unfoldable pub placesIn : Header → ℕ → ℕ → Check (List ℕ)
 placesIn d first room = do
-  provided (isNumberOf first (d .reads)) 7
-  v ← at 0 (walk d (first - 1) 0 (front d))
-  placesFrom d (left d first) (first - 1) (v .behind) room
+  b ← beforeRead d first
+  placesFrom d (left d first) (first - 1) b room
 
 unfoldable pub placesReading : ℕ → ℕ → Check (List ℕ)
 placesReading first room = do

@@ -1,11 +1,11 @@
 -- SFF: the walk over the reads, which judging and every call for a read share.
 -- Assumes nothing.
-use Prim.Native.Nat.{ℕ, zero, suc, _+_}
+use Prim.Native.Nat.{ℕ, zero, suc, _+_, _-_}
 use mathlib.Core.List.{List, [], _∷_}
 use mathlib.Core.Bool.{true, false}
 use lib.Dec.{eqb}
-use Rattle.reading.specs.Choice.{pick}
-use Rattle.reading.specs.Check.{Check, Outcome, passed, failed, short, done, need, at, _>>=_, _>>_}
+use Rattle.reading.specs.Choice.{pick, isNumberOf}
+use Rattle.reading.specs.Check.{Check, Outcome, passed, failed, short, Answer, ok, refused, done, need, provided, at, _>>=_, _>>_}
 use Rattle.sff.specs.declared.header.Header.{Header}
 use Rattle.sff.specs.declared.walk.Boundary.{Boundary}
 use Rattle.sff.specs.declared.walk.Skipped.{Skipped}
@@ -14,6 +14,8 @@ use Rattle.sff.specs.declared.walk.Step.{Step}
 use Rattle.sff.specs.declared.walk.Step.the-variants as step
 use Rattle.sff.specs.declared.walk.Walked.{Walked}
 use Rattle.sff.specs.declared.walk.Walked.the-variants as walked
+use Rattle.sff.specs.declared.walk.Reached.{Reached}
+use Rattle.sff.specs.declared.walk.Reached.the-variants as reached-to
 use Rattle.sff.specs.Padding.{padded}
 use Rattle.sff.specs.Read.{framing}
 
@@ -60,6 +62,12 @@ walkPast d n i b = do
   w ← walk d n i b
   done (w .behind)
 
+-- the boundary before read k, from one: no such read 7, then the reads before it, with all refusals at 0
+unfoldable pub beforeRead : Header → ℕ → Check Boundary
+beforeRead d k = do
+  provided (isNumberOf k (d .reads)) 7
+  at 0 (walkPast d (k - 1) 0 (front d))
+
 -- what each case stands for
 abbrev pub skipped : Skipped → Outcome Boundary
 skipped (skip.To b) = passed b
@@ -76,3 +84,7 @@ abbrev pub past : Walked → Outcome Boundary
 past (walked.Behind b) = passed b
 past (walked.Bad w e) = failed w e
 past (walked.Short p m e) = short (record { start = p; end = m }) e
+
+abbrev pub reached : Reached → Answer Boundary
+reached (reached-to.At b) = ok b
+reached (reached-to.Refused n) = refused n 0

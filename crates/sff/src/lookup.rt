@@ -11,11 +11,10 @@ use crate::read::Framed;
 use crate::read::ReadHeader;
 use crate::read::frame;
 use crate::read::read_header_of;
-use crate::walk::Boundary;
+use crate::walk::Reached;
 use crate::walk::Skipped;
-use crate::walk::Walked;
 use crate::walk::skip_index;
-use crate::walk::walk;
+use crate::walk::walk_to;
 use reading::part::part;
 ghost use mathlib.Core.Path.{_≡_};
 ghost use mathlib.Core.List.{List};
@@ -71,7 +70,7 @@ pub(crate) struct Place {
 
 // The letters from base m to base n, where p is the letters' start; none where m is past n.
 fn insert_from(p: usize, m: u64, n: u64) -> Place
-    requires { ⌜ (1 ≤ m) × (p + m < 0x8000000000000000) × (n < 0x8000000000000000) ⌝ }
+    requires { ⌜ (1 ≤ m) × (p + m < 0x10000000000000000) × (n < 0x8000000000000000) ⌝ }
     ensures { λ r. ⌜ (r .start ≡ insertFrom p m n .start) × (r .size ≡ insertFrom p m n .size) ⌝ }
 {
     if n < m {
@@ -84,7 +83,7 @@ fn insert_from(p: usize, m: u64, n: u64) -> Place
 }
 
 fn read_of(flows: u16, d: ReadHeader) -> Read
-    requires { ⌜ d .start < 0x4000000000000000 ⌝ }
+    requires { ⌜ d .start < 0x8000000000000000 ⌝ }
     ensures { λ r. ⌜ r ≡ readOf flows d ⌝ }
 {
     let flows_start = d.start + d.header_length as usize;
@@ -152,20 +151,9 @@ fn read_in(s: &[u8], d: Header, k: u64) -> Found
     requires { ⌜ d .«header_length» ≤ length (now s) ⌝ }
     ensures { λ r. ⌜ found r ≡ answer (readIn d k) (now (s .entry)) ⌝ }
 {
-    if k < 1 {
-        return Found::Refused(7);
-    }
-    if (d.reads as u64) < k {
-        return Found::Refused(7);
-    }
-    let front = Boundary {
-        position: d.header_length as usize,
-        met: false,
-    };
-    match walk(s, d, (k - 1) as usize, 0, front) {
-        Walked::Bad(test, _) => Found::Refused(test.number),
-        Walked::Short(_, _, _) => Found::Refused(1),
-        Walked::Behind(b) => match skip_index(s, d, b) {
+    match walk_to(s, d, k) {
+        Reached::Refused(n) => Found::Refused(n),
+        Reached::At(b) => match skip_index(s, d, b) {
             Skipped::Short(_, _) => Found::Refused(1),
             Skipped::To(c) => read_from(s, d.flows, c.position),
         },

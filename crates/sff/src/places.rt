@@ -3,15 +3,17 @@ use crate::header::Header;
 use crate::header::Opened;
 use crate::header::read_fields;
 use crate::walk::Boundary;
+use crate::walk::Reached;
 use crate::walk::Step;
 use crate::walk::Walked;
 use crate::walk::next_read;
 use crate::walk::walk;
+use crate::walk::walk_to;
 ghost use mathlib.Core.Path.{_≡_};
-ghost use mathlib.Core.List.{List, _++_};
-ghost use Prim.Native.Nat.{ℕ, _+_, _≤_, _<_};
+ghost use mathlib.Core.List.{_++_};
+ghost use Prim.Native.Nat.{_+_, _≤_, _<_};
 ghost use lib.ListN.{length, drop};
-ghost use Rattle.reading.specs.Check.{run, passed, answer, mapAnswer};
+ghost use Rattle.reading.specs.Check.{ok, answer, mapAnswer};
 ghost use Rattle.reading.specs.Lent.{filled};
 ghost use Rattle.sff.specs.Walk.{Passage, walk as walking};
 ghost use Rattle.sff.specs.Places.{placesFrom, placesIn, placesReading, listed};
@@ -24,8 +26,8 @@ pub enum Listed {
 
 // The places of n reads behind boundary b, which a walk has found sound, at the output's front.
 fn write_places(s: &[u8], d: Header, n: usize, b: Boundary, out: &mut [u64])
-    requires { ⌜ (b .position ≤ length (now s)) × (n ≤ length (now out)) × ((i : ℕ) × (w : Passage) × (run (walking d n i b) (now s) ≡ passed w)) ⌝ }
-    ensures { λ _. ⌜ ((i : ℕ) (w : Passage) → run (walking d n i b) (now (s .entry)) ≡ passed w → now (out .exit) ≡ w .starts ++ drop n (now (out .entry))) ⌝ }
+    requires { ⌜ (b .position ≤ length (now s)) × (n ≤ length (now out)) × ((w : Passage) × (answer (walking d n 0 b) (now s) ≡ ok w)) ⌝ }
+    ensures { λ _. ⌜ ((w : Passage) → answer (walking d n 0 b) (now (s .entry)) ≡ ok w → now (out .exit) ≡ w .starts ++ drop n (now (out .entry))) ⌝ }
 {
     let mut here = b;
     let mut i = 0;
@@ -73,21 +75,12 @@ fn places_in(s: &[u8], d: Header, first: u64, out: &mut [u64]) -> Listed
     ensures { λ r. ⌜ listed r ≡ mapAnswer length (answer (placesIn d first (length (now (out .entry)))) (now (s .entry))) ⌝ }
     ensures { λ _. ⌜ now (out .exit) ≡ filled (answer (placesIn d first (length (now (out .entry)))) (now (s .entry))) (now (out .entry)) ⌝ }
 {
-    if first < 1 {
-        return Listed::Refused(7);
-    }
-    if (d.reads as u64) < first {
-        return Listed::Refused(7);
-    }
-    let before = (first - 1) as usize;
-    let front = Boundary {
-        position: d.header_length as usize,
-        met: false,
-    };
-    match walk(s, d, before, 0, front) {
-        Walked::Bad(test, _) => Listed::Refused(test.number),
-        Walked::Short(_, _, _) => Listed::Refused(1),
-        Walked::Behind(b) => places_from(s, d, d.reads as usize - before, before, b, out),
+    match walk_to(s, d, first) {
+        Reached::Refused(n) => Listed::Refused(n),
+        Reached::At(b) => {
+            let before = (first - 1) as usize;
+            places_from(s, d, d.reads as usize - before, before, b, out)
+        }
     }
 }
 

@@ -7,8 +7,8 @@ use reading::check::Test;
 ghost use mathlib.Core.Path.{_≡_};
 ghost use Prim.Native.Nat.{ℕ, _+_, _≤_, _<_};
 ghost use lib.ListN.{length};
-ghost use Rattle.reading.specs.Check.{run};
-ghost use Rattle.sff.specs.Walk.{skipIndex, nextRead, walkPast, skipped, stepped, past};
+ghost use Rattle.reading.specs.Check.{run, answer};
+ghost use Rattle.sff.specs.Walk.{skipIndex, nextRead, walkPast, beforeRead, skipped, stepped, past, reached};
 
 // A boundary between reads: its position, and whether the index has been met.
 pub(crate) struct Boundary {
@@ -35,6 +35,12 @@ pub(crate) enum Walked {
     Behind(Boundary),
     Bad(Test, usize),
     Short(usize, usize, usize),
+}
+
+// The boundary before a read, or the refusal.
+pub(crate) enum Reached {
+    At(Boundary),
+    Refused(u8),
 }
 
 pub(crate) fn skip_index(s: &[u8], d: Header, b: Boundary) -> Skipped
@@ -103,4 +109,26 @@ pub(crate) fn walk(s: &[u8], d: Header, n: usize, i: usize, b: Boundary) -> Walk
         }
     }
     Walked::Behind(here)
+}
+
+// The boundary before read k, counted from one.
+pub(crate) fn walk_to(s: &[u8], d: Header, k: u64) -> Reached
+    requires { ⌜ d .«header_length» ≤ length (now s) ⌝ }
+    ensures { λ r. ⌜ reached r ≡ answer (beforeRead d k) (now (s .entry)) ⌝ }
+{
+    if k < 1 {
+        return Reached::Refused(7);
+    }
+    if (d.reads as u64) < k {
+        return Reached::Refused(7);
+    }
+    let front = Boundary {
+        position: d.header_length as usize,
+        met: false,
+    };
+    match walk(s, d, (k - 1) as usize, 0, front) {
+        Walked::Bad(test, _) => Reached::Refused(test.number),
+        Walked::Short(_, _, _) => Reached::Refused(1),
+        Walked::Behind(b) => Reached::At(b),
+    }
 }

@@ -1,23 +1,23 @@
 -- Judging, from the answers of its parts.
 -- Assumes nothing.
 use Prim.Native.Nat.{ℕ, _^_, _<_}
-use mathlib.Core.Path.{_≡_, sym, _∙_, ap}
+use mathlib.Core.Path.{_≡_, sym}
 use mathlib.Core.List.{List}
-use mathlib.Core.Bool.{Bool, true, false}
+use mathlib.Core.Bool.{true, false}
 use borrow.Author.Tests.{eq-eqb, ne-eqb}
 use Rattle.reading.specs.declared.check.Test.{Test}
 use Rattle.reading.specs.declared.check.Rule.the-variants.{Other}
 use Rattle.reading.specs.declared.check.Explanation.the-variants as Explanation
 use Rattle.reading.specs.declared.check.Explanation.the-variants.{Whole}
-use Rattle.reading.specs.Check.{Need, Outcome, passed, failed, short, run, holds}
+use Rattle.reading.specs.Check.{Need, passed, failed, short, run, holds}
 use Rattle.reading.specs.Explain.{explained}
 use Rattle.reading.proofs.Explained.{explained-short}
-use Rattle.reading.proofs.Steps.{then, run-bind, run-must, run-done}
+use Rattle.reading.proofs.Steps.{run-bind, run-must, run-done}
 use Rattle.reading.proofs.Passed.{stops-failed, stops-short, passes-on}
 use Rattle.sff.specs.declared.header.Header.{Header}
 use Rattle.sff.specs.declared.walk.Boundary.{Boundary}
 use Rattle.sff.specs.Header.{header, indexOffset, isMet}
-use Rattle.sff.specs.Walk.{front, skipIndex, Passage, walk, walkPast}
+use Rattle.sff.specs.Walk.{front, skipIndex, walk, walkPast}
 use Rattle.sff.specs.Judge.{indexMet, ending, judgingReads, judging}
 
 module _ (d : Header) (b : Boundary) (s : List ℕ) where

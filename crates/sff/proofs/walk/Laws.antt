@@ -1,23 +1,24 @@
 -- The walk over the reads, from the answers of its parts.
 -- Assumes nothing.
-use Prim.Native.Nat.{ℕ, zero, suc, _+_, _≤_, _<_}
+use Prim.Native.Nat.{ℕ, zero, suc, _+_, _-_, _≤_, _<_}
 use mathlib.Core.Path.{_≡_, refl, sym, _∙_, ap, subst}
 use mathlib.Core.List.{List, _∷_}
 use mathlib.Core.Bool.{Bool, true, false}
 use lib.ListN.{length}
 use lib.Dec.{eqb}
-use borrow.Author.Tests.{eq-eqb, ne-eqb}
+use borrow.Author.Tests.{eq-eqb, ne-eqb, le-leb, lt-leb}
 use Rattle.reading.specs.declared.check.Test.{Test}
 use Rattle.reading.specs.Choice.{pick}
-use Rattle.reading.specs.Check.{Need, Outcome, passed, failed, short, ok, run, answer, done, need, _>>_}
-use Rattle.reading.proofs.Cut.{run-ok}
-use Rattle.reading.proofs.Steps.{then, run-bind, run-done, run-at, run-need-present, run-need-absent}
-use Rattle.reading.proofs.Passed.{bind-ok, done-ok, need-ok, at-ok}
+use Rattle.reading.specs.Check.{Need, Outcome, passed, failed, short, ok, refused, plain, run, answer, holds, done, need, _>>_}
+use Rattle.reading.proofs.Cut.{run-ok, answer-ok, answer-plain}
+use Rattle.reading.proofs.Steps.{then, run-bind, run-done, run-at, run-need-present, run-need-absent, answer-bind, answer-must, answer-done, answer-at, answerAt}
+use Rattle.reading.proofs.Passed.{bind-ok, done-ok, must-ok, need-ok, at-ok}
+use Rattle.reading.proofs.Tests.{number-within}
 use Rattle.sff.specs.declared.header.Header.{Header}
 use Rattle.sff.specs.declared.walk.Boundary.{Boundary}
 use Rattle.sff.specs.Padding.{padded}
 use Rattle.sff.specs.Read.{framing}
-use Rattle.sff.specs.Walk.{behindIndex, skipIndex, Placed, nextRead, Passage, walk, walkPast}
+use Rattle.sff.specs.Walk.{front, behindIndex, skipIndex, Placed, nextRead, Passage, walk, walkPast, beforeRead}
 use Rattle.sff.proofs.read.Laws.{framing-within}
 
 module _ (d : Header) (b : Boundary) (s : List ℕ) where
@@ -101,7 +102,7 @@ pub next-passed-within : (d : Header) (i : ℕ) (b : Boundary) (s : List ℕ) (r
 next-passed-within d i b s r h = next-within d b s i r (run-ok _ s r h)
 
 -- and so does the walk
-walk-within : (d : Header) (s : List ℕ) (n i : ℕ) (b : Boundary) → b .position ≤ length s → (w : Passage) → answer (walk d n i b) s ≡ ok w → w .behind .position ≤ length s
+pub walk-within : (d : Header) (s : List ℕ) (n i : ℕ) (b : Boundary) → b .position ≤ length s → (w : Passage) → answer (walk d n i b) s ≡ ok w → w .behind .position ≤ length s
 unfolding walk
 walk-within d s zero i b l w h = subst (λ (x : Passage). x .behind .position ≤ length s) (done-ok _ _ s h) l
 walk-within d s (suc n) i b l w h =
@@ -114,3 +115,57 @@ unfolding walkPast
 past-within d s n i b c l h =
     let a = bind-ok _ _ s c (run-ok _ s c h) in
     subst (λ (x : Boundary). x .position ≤ length s) (done-ok _ _ s (a .2)) (walk-within d s n i b l (a .0) (a .1))
+
+-- the boundary before a read, from what the walk finds
+module _ (d : Header) (k : ℕ) (s : List ℕ) where
+  pub before-none : k < 1 → refused 7 0 ≡ answer (beforeRead d k) s
+  unfolding beforeRead holds
+  before-none h = simp (answer-bind, answer-must, lt-leb 1 k h)
+
+  module _ (h : 1 ≤ k) where
+    pub before-past : d .reads < k → refused 7 0 ≡ answer (beforeRead d k) s
+    unfolding beforeRead holds
+    before-past l = simp (answer-bind, answer-must, le-leb 1 k h, lt-leb k (d .reads) l)
+
+    module _ (l : k ≤ d .reads) where
+      before-walk : answerAt 0 (answer (walkPast d (k - 1) 0 (front d)) s) ≡ answer (beforeRead d k) s
+      unfolding beforeRead holds
+      before-walk = simp (answer-bind, answer-must, le-leb 1 k h, le-leb k (d .reads) l, answer-at)
+
+      pub before-found : (o : Outcome Boundary) → o ≡ run (walkPast d (k - 1) 0 (front d)) s → answerAt 0 (plain o) ≡ answer (beforeRead d k) s
+      before-found o q = ap (λ (x : Outcome Boundary). answerAt 0 (plain x)) q ∙ ap (answerAt 0) (sym (answer-plain _ s)) ∙ before-walk
+
+  -- where there is one, the read is one of the file's, and the boundary lies within the file
+  pub before-ok : (b : Boundary) → d .«header_length» ≤ length s → answer (beforeRead d k) s ≡ ok b → (1 ≤ k) × (k ≤ d .reads) × (b .position ≤ length s)
+  unfolding beforeRead holds
+  before-ok b u w =
+      let a = bind-ok _ _ s b w in
+      let n = number-within k (d .reads) (must-ok _ _ 7 s (a .0) (a .1)) in
+      (n .0, n .1, past-within d s (k - 1) 0 (front d) b u (answer-ok _ s b (at-ok 0 _ s b (a .2))))
+
+-- where a read passes, its number plays no part
+module _ (d : Header) (s : List ℕ) where
+  pub next-any : (i j : ℕ) (b : Boundary) (r : Placed) → answer (nextRead d i b) s ≡ ok r → answer (nextRead d j b) s ≡ ok r
+  unfolding nextRead
+  next-any i j b r h =
+      let a = bind-ok _ _ s r h in
+      let e = bind-ok _ _ s r (a .2) in
+      let q = at-ok (i + 1) _ s (e .0) (e .1) in
+      simp (answer-bind, a .1, answer-at, q, answer-done) (ap ok (done-ok _ _ s (e .2)))
+
+  pub walk-any : (n i j : ℕ) (b : Boundary) (w : Passage) → answer (walk d n i b) s ≡ ok w → answer (walk d n j b) s ≡ ok w
+  unfolding walk
+  walk-any zero i j b w h = h
+  walk-any (suc n) i j b w h =
+      let a = bind-ok _ _ s w h in
+      let e = bind-ok _ _ s w (a .2) in
+      let q = walk-any n (i + 1) (j + 1) (a .0 .behind) (e .0) (e .1) in
+      simp (answer-bind, next-any i j b (a .0) (a .1), q, answer-done) (ap ok (done-ok _ _ s (e .2)))
+
+  pub walk-length : (n i : ℕ) (b : Boundary) (w : Passage) → answer (walk d n i b) s ≡ ok w → length (w .starts) ≡ n
+  unfolding walk
+  walk-length zero i b w h = subst (λ (x : Passage). length (x .starts) ≡ 0) (done-ok _ _ s h) refl
+  walk-length (suc n) i b w h =
+      let a = bind-ok _ _ s w h in
+      let e = bind-ok _ _ s w (a .2) in
+      subst (λ (x : Passage). length (x .starts) ≡ suc n) (done-ok _ _ s (e .2)) (ap suc (walk-length n (i + 1) (a .0 .behind) (e .0) (e .1)))

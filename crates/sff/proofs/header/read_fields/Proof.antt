@@ -1,39 +1,29 @@
 use mathlib.Core.Path.{_∙_, sym, ap}
+use borrow.Author.Needs.{needs}
 use Rattle.reading.specs.Check.{plain}
 use Rattle.reading.proofs.Cut.{answer-plain}
 use Rattle.sff.specs.Header.{header, read}
-use borrow.Author.Needs.{needs}
 use Rattle.sff.proofs.header.read_fields.Statement.{statement}
 use Rattle.sff.proofs.header.read_fields.Tie as tie
-use Rattle.sff.proofs.header.read_fields.Reads as reads
-use Rattle.sff.proofs.header.read_fields.Lts as lts
-use Rattle.sff.proofs.header.read_header.Reads as read-header-reads
 
--- src/header.rt:170:11
 read-header-requires : tie.Need-read-header-requires
 read-header-requires c κs = search needs
 
--- src/header.rt:171:26
 enum-known-d : tie.Need-enum-known-d
 enum-known-d c = search needs
 
--- src/header.rt:172:25
 enum-known-t : tie.Need-enum-known-t
 enum-known-t c = search needs
 
--- src/header.rt:173:36
 enum-told : tie.Need-enum-told
 enum-told c = search needs
 
--- src/header.rt:167:1
 returns : tie.Need-returns
 returns c = ap plain (sym (ap read (c .before .d .given .1)) ∙ c .before .before .before .read-header .ensures) ∙ sym (answer-plain header _)
 
--- src/header.rt:167:1
 returns-2 : tie.Need-returns-2
 returns-2 c = ap plain (sym (ap read (c .before .t .given .1)) ∙ c .before .before .before .read-header .ensures) ∙ sym (answer-plain header _)
 
--- src/header.rt:167:1
 returns-3 : tie.Need-returns-3
 returns-3 c = ap plain (sym (ap read (c .enum-told .given .1)) ∙ c .before .before .read-header .ensures) ∙ sym (answer-plain header _)
 

@@ -1,50 +1,38 @@
 use mathlib.Core.Path.{sym, _∙_, ap}
 use native.Mathlib.Omega.{arith}
+use borrow.Author.Needs.{needs}
 use Rattle.reading.specs.Explain.{explained}
 use Rattle.reading.proofs.Cut.{run-ok}
 use Rattle.reading.proofs.Explained.{explained-short}
 use Rattle.sff.specs.Header.{read}
 use Rattle.sff.proofs.header.Laws.{header-there}
 use Rattle.sff.proofs.judge.Laws.{judge-failed, judge-short, judge-passed}
-use borrow.Author.Needs.{needs}
 use Rattle.sff.proofs.judge.explain.Statement.{statement}
 use Rattle.sff.proofs.judge.explain.Tie as tie
-use Rattle.sff.proofs.judge.explain.Reads as reads
-use Rattle.sff.proofs.judge.explain.Lts as lts
-use Rattle.sff.proofs.header.read_header.Reads as read-header-reads
-use Rattle.sff.proofs.judge.explain_reads.Reads as explain-reads-reads
 
--- src/judge.rt:85:11
 read-header-requires : tie.Need-read-header-requires
 read-header-requires c κs = search needs
 
--- src/judge.rt:86:25
 enum-known-test : tie.Need-enum-known-test
 enum-known-test c = search needs
 
--- src/judge.rt:87:27
 enum-known-start : tie.Need-enum-known-start
 enum-known-start c = search needs
 
--- src/judge.rt:92:26
 enum-known-d : tie.Need-enum-known-d
 enum-known-d c = search needs
 
--- src/judge.rt:92:32
 explain-reads-requires : tie.Need-explain-reads-requires
 explain-reads-requires c κs =
     let k = c .before .before .before in
     header-there _ _ (run-ok _ _ _ (sym (k .read-header .ensures) ∙ ap read (c .before .d .given .1)))
 
--- src/judge.rt:82:1
 returns : tie.Need-returns
 returns c = sym (ap explained (judge-failed _ _ (sym (c .before .before .before .read-header .ensures) ∙ ap read (c .before .test .given .1))))
 
--- src/judge.rt:82:1
 returns-2 : tie.Need-returns-2
 returns-2 c = sym (ap explained (judge-short _ _ (sym (c .before .before .before .read-header .ensures) ∙ ap read (c .before .start .given .1))) ∙ explained-short _ _ _ (omega arith))
 
--- src/judge.rt:82:1
 returns-3 : tie.Need-returns-3
 returns-3 c = c .explain-reads .ensures ∙ ap explained (judge-passed _ _ (sym (c .before .before .before .before .read-header .ensures) ∙ ap read (c .before .before .d .given .1)))
 

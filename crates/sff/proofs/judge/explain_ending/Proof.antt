@@ -1,43 +1,33 @@
 use mathlib.Core.Path.{sym, _∙_, ap}
 use native.Mathlib.Omega.{arith}
+use borrow.Author.Needs.{needs}
 use Rattle.sff.specs.Walk.{skipped}
 use Rattle.sff.proofs.judge.Laws.{ending-short, ending-none, ending-behind, ending-unmet}
-use borrow.Author.Needs.{needs}
 use Rattle.sff.proofs.judge.explain_ending.Statement.{statement}
 use Rattle.sff.proofs.judge.explain_ending.Tie as tie
-use Rattle.sff.proofs.judge.explain_ending.Reads as reads
-use Rattle.sff.proofs.judge.explain_ending.Lts as lts
-use Rattle.sff.proofs.walk.skip_index.Reads as skip-index-reads
 
--- src/judge.rt:32:11
 skip-index-requires : tie.Need-skip-index-requires
 skip-index-requires c κs = search needs
 
--- src/judge.rt:33:24
 enum-known-start : tie.Need-enum-known-start
 enum-known-start c = search needs
 
--- src/judge.rt:38:21
 enum-known-c : tie.Need-enum-known-c
 enum-known-c c = search needs
 
--- src/judge.rt:41:17
 returns : tie.Need-returns
 returns c =
     let k = c .before .before .before .before .before in
     ending-none _ _ _ _ (sym (k .skip-index .ensures) ∙ ap skipped (c .before .before .before .c .given .1)) (c .if1 .taken)
 
--- src/judge.rt:44:17
 returns-2 : tie.Need-returns-2
 returns-2 c =
     let k = c .before .before .before .before .before .before in
     ending-behind _ _ _ _ (sym (k .skip-index .ensures) ∙ ap skipped (c .before .before .before .before .c .given .1)) (c .before .if1 .left) (c .if2 .taken)
 
--- src/judge.rt:28:1
 returns-3 : tie.Need-returns-3
 returns-3 c = ending-short _ _ _ _ _ (sym (c .before .before .before .skip-index .ensures) ∙ ap skipped (c .before .start .given .1)) (omega arith)
 
--- src/judge.rt:28:1
 returns-4 : tie.Need-returns-4
 returns-4 c =
     let k = c .before .before .before .before .before .before in

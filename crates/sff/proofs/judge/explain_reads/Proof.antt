@@ -1,57 +1,43 @@
 use mathlib.Core.Path.{sym, _∙_, ap}
 use native.Mathlib.Omega.{arith}
+use borrow.Author.Needs.{needs}
 use Rattle.reading.specs.Explain.{explained}
 use Rattle.reading.proofs.Explained.{explained-short}
 use Rattle.sff.specs.Walk.{past}
 use Rattle.sff.proofs.walk.Laws.{past-within}
 use Rattle.sff.proofs.judge.Laws.{reads-failed, reads-short, reads-passed}
-use borrow.Author.Needs.{needs}
 use Rattle.sff.proofs.judge.explain_reads.Statement.{statement}
 use Rattle.sff.proofs.judge.explain_reads.Tie as tie
-use Rattle.sff.proofs.judge.explain_reads.Reads as reads
-use Rattle.sff.proofs.judge.explain_reads.Lts as lts
-use Rattle.sff.proofs.judge.explain_ending.Reads as explain-ending-reads
-use Rattle.sff.proofs.walk.walk.Reads as walk-reads
 
--- src/judge.rt:67:19
 cast-walk : tie.Need-cast-walk
 cast-walk c = search needs
 
--- src/judge.rt:70:22
 cast-walk-2 : tie.Need-cast-walk-2
 cast-walk-2 c = search needs
 
--- src/judge.rt:70:11
 walk-requires : tie.Need-walk-requires
 walk-requires c κs = (omega arith, omega arith)
 
--- src/judge.rt:71:21
 enum-known-test : tie.Need-enum-known-test
 enum-known-test c = search needs
 
--- src/judge.rt:72:23
 enum-known-start : tie.Need-enum-known-start
 enum-known-start c = search needs
 
--- src/judge.rt:77:24
 enum-known-b : tie.Need-enum-known-b
 enum-known-b c = search needs
 
--- src/judge.rt:77:30
 explain-ending-requires : tie.Need-explain-ending-requires
 explain-ending-requires c κs =
     let k = c .before .before .before in
     past-within _ _ _ _ _ _ (omega arith) (sym (k .walk .ensures) ∙ ap past (c .before .b .given .1))
 
--- src/judge.rt:62:1
 returns : tie.Need-returns
 returns c = sym (ap explained (reads-failed _ _ _ _ (sym (c .before .before .before .walk .ensures) ∙ ap past (c .before .test .given .1))))
 
--- src/judge.rt:62:1
 returns-2 : tie.Need-returns-2
 returns-2 c = sym (ap explained (reads-short _ _ _ _ (sym (c .before .before .before .walk .ensures) ∙ ap past (c .before .start .given .1))) ∙ explained-short _ _ _ (omega arith))
 
--- src/judge.rt:62:1
 returns-3 : tie.Need-returns-3
 returns-3 c = c .explain-ending .ensures ∙ ap explained (reads-passed _ _ _ (sym (c .before .before .before .before .walk .ensures) ∙ ap past (c .before .before .b .given .1)))
 

@@ -1,65 +1,47 @@
-use Rattle.sff.specs.Read.{readHeaderOf}
 use borrow.Author.Needs.{needs}
+use Rattle.sff.specs.Read.{readHeaderOf}
 use Rattle.sff.proofs.read.read_header_of.Statement.{statement}
 use Rattle.sff.proofs.read.read_header_of.Tie as tie
-use Rattle.sff.proofs.read.read_header_of.Reads as reads
-use Rattle.sff.proofs.read.read_header_of.Lts as lts
-use Rattle.reading.proofs.number.be16.Reads as be16-reads
-use Rattle.reading.proofs.number.be32.Reads as be32-reads
 
--- src/read.rt:39:24
 be16-requires : tie.Need-be16-requires
 be16-requires c κs = search needs
 
--- src/read.rt:40:30
 add-be16 : tie.Need-add-be16
 add-be16 c = search needs
 
--- src/read.rt:40:22
 be16-requires-2 : tie.Need-be16-requires-2
 be16-requires-2 c κs = search needs
 
--- src/read.rt:41:24
 add-be32 : tie.Need-add-be32
 add-be32 c = search needs
 
--- src/read.rt:41:16
 be32-requires : tie.Need-be32-requires
 be32-requires c κs = search needs
 
--- src/read.rt:42:31
 add-be16-2 : tie.Need-add-be16-2
 add-be16-2 c = search needs
 
--- src/read.rt:42:23
 be16-requires-3 : tie.Need-be16-requires-3
 be16-requires-3 c κs = search needs
 
--- src/read.rt:43:32
 add-be16-3 : tie.Need-add-be16-3
 add-be16-3 c = search needs
 
--- src/read.rt:43:24
 be16-requires-4 : tie.Need-be16-requires-4
 be16-requires-4 c κs = search needs
 
--- src/read.rt:44:31
 add-be16-4 : tie.Need-add-be16-4
 add-be16-4 c = search needs
 
--- src/read.rt:44:23
 be16-requires-5 : tie.Need-be16-requires-5
 be16-requires-5 c κs = search needs
 
--- src/read.rt:45:32
 add-be16-5 : tie.Need-add-be16-5
 add-be16-5 c = search needs
 
--- src/read.rt:45:24
 be16-requires-6 : tie.Need-be16-requires-6
 be16-requires-6 c κs = search needs
 
--- src/read.rt:33:1
 returns : tie.Need-returns
 unfolding readHeaderOf
 returns c = cc

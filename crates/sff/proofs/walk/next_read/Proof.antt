@@ -1,65 +1,50 @@
 use mathlib.Core.Path.{sym, _∙_, ap}
+use borrow.Author.Needs.{needs}
 use Rattle.reading.proofs.Cut.{run-ok}
 use Rattle.sff.specs.Read.{framed}
 use Rattle.sff.specs.Walk.{skipped}
 use Rattle.sff.proofs.walk.Laws.{skip-within, next-cut, next-failed, next-short, next-passed}
-use borrow.Author.Needs.{needs}
 use Rattle.sff.proofs.walk.next_read.Statement.{statement}
 use Rattle.sff.proofs.walk.next_read.Tie as tie
-use Rattle.sff.proofs.walk.next_read.Reads as reads
-use Rattle.sff.proofs.walk.next_read.Lts as lts
-use Rattle.sff.proofs.read.frame.Reads as frame-reads
-use Rattle.sff.proofs.walk.skip_index.Reads as skip-index-reads
 
--- src/walk.rt:62:11
 skip-index-requires : tie.Need-skip-index-requires
 skip-index-requires c κs = search needs
 
--- src/walk.rt:63:24
 enum-known-start : tie.Need-enum-known-start
 enum-known-start c = search needs
 
--- src/walk.rt:64:21
 enum-known-c : tie.Need-enum-known-c
 enum-known-c c = search needs
 
--- src/walk.rt:66:19
 frame-requires : tie.Need-frame-requires
 frame-requires c κs =
     let k = c .before .before .before in
     skip-within _ _ _ _ (k .before .before .pre) (run-ok _ _ _ (sym (k .skip-index .ensures) ∙ ap skipped (c .before .c .given .1)))
 
--- src/walk.rt:67:29
 enum-known-test : tie.Need-enum-known-test
 enum-known-test c = search needs
 
--- src/walk.rt:68:31
 enum-known-missing : tie.Need-enum-known-missing
 enum-known-missing c = search needs
 
--- src/walk.rt:69:29
 enum-known-end : tie.Need-enum-known-end
 enum-known-end c = search needs
 
--- src/walk.rt:58:1
 returns : tie.Need-returns
 returns c i = next-cut _ _ _ i _ (sym (c .before .before .before .skip-index .ensures) ∙ ap skipped (c .before .start .given .1))
 
--- src/walk.rt:58:1
 returns-2 : tie.Need-returns-2
 returns-2 c i =
     let f = c .before .before .before in
     let k = f .before .before .before .before in
     next-failed _ _ _ i _ (sym (k .skip-index .ensures) ∙ ap skipped (f .before .before .c .given .1)) _ (sym (f .frame .ensures) ∙ ap framed (c .before .test .given .1))
 
--- src/walk.rt:58:1
 returns-3 : tie.Need-returns-3
 returns-3 c i =
     let f = c .before .before .before in
     let k = f .before .before .before .before in
     next-short _ _ _ i _ (sym (k .skip-index .ensures) ∙ ap skipped (f .before .before .c .given .1)) _ (sym (f .frame .ensures) ∙ ap framed (c .before .missing .given .1))
 
--- src/walk.rt:58:1
 returns-4 : tie.Need-returns-4
 returns-4 c i =
     let f = c .before .before .before in

@@ -1,34 +1,24 @@
 use native.Mathlib.Omega.{arith}
 use borrow.Author.Needs.{needs}
 use Rattle.sff.proofs.walk.Laws.{skip-none, skip-short, skip-index}
-use borrow.Author.Needs.{needs}
 use Rattle.sff.proofs.walk.skip_index.Statement.{statement}
 use Rattle.sff.proofs.walk.skip_index.Tie as tie
-use Rattle.sff.proofs.walk.skip_index.Reads as reads
-use Rattle.sff.proofs.walk.skip_index.Lts as lts
-use Rattle.sff.proofs.padding.round_up.Reads as round-up-reads
 
--- src/walk.rt:46:9
 returns : tie.Need-returns
 returns c = skip-none _ _ _ (c .if1 .taken)
 
--- src/walk.rt:48:35
 cast-round-up : tie.Need-cast-round-up
 cast-round-up c = search needs
 
--- src/walk.rt:48:26
 round-up-requires : tie.Need-round-up-requires
 round-up-requires c κs = search needs
 
--- src/walk.rt:48:15
 add-end : tie.Need-add-end
 add-end c = omega arith
 
--- src/walk.rt:50:9
 returns-2 : tie.Need-returns-2
 returns-2 c = skip-short _ _ _ (c .before .before .before .if1 .left) _ (rw (c .before .round-up .ensures .0)) (search needs)
 
--- src/walk.rt:40:1
 returns-3 : tie.Need-returns-3
 returns-3 c = skip-index _ _ _ (c .before .before .before .if1 .left) _ (rw (c .before .round-up .ensures .0)) (search needs)
 

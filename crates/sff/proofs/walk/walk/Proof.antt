@@ -10,9 +10,6 @@ use Rattle.sff.specs.Walk.{walkPast, stepped}
 use Rattle.sff.proofs.walk.Laws.{past-failed, past-short, past-next, past-end, next-passed-within}
 use Rattle.sff.proofs.walk.walk.Statement.{statement}
 use Rattle.sff.proofs.walk.walk.Tie as tie
-use Rattle.sff.proofs.walk.walk.Reads as reads
-use Rattle.sff.proofs.walk.walk.Lts as lts
-use Rattle.sff.proofs.walk.next_read.Reads as next-read-reads
 
 abbrev Inv-loop : tie.InvT-loop
 Inv-loop s d n i here₀ j₀ here j = (j ≤ n) × (here .position ≤ length s) × Left (λ m. run (walkPast d m (i + j) here) s) n j (run (walkPast d n i here₀) s)
@@ -20,29 +17,23 @@ Inv-loop s d n i here₀ j₀ here j = (j ≤ n) × (here .position ≤ length s
 abbrev μ-loop : tie.MeasureT-loop
 μ-loop s d n i here₀ j₀ here j = n - j
 
--- src/walk.rt:88:5
 loop-holds : tie.Need-loop-holds Inv-loop μ-loop
 loop-holds c =
     let g = c .before .args in
     (omega arith, search needs, rw (add-zero (g .i)) (left-start (λ m. run (walkPast (g .d) m (g .i) (g .b)) (g .s .now)) (g .n)))
 
--- src/walk.rt:89:15
 next-read-requires : tie.Need-next-read-requires Inv-loop μ-loop
 next-read-requires c κs = search needs
 
--- src/walk.rt:90:23
 enum-known-test : tie.Need-enum-known-test Inv-loop μ-loop
 enum-known-test c = search needs
 
--- src/walk.rt:91:42
 add-t16 : tie.Need-add-t16 Inv-loop μ-loop
 add-t16 c = omega arith
 
--- src/walk.rt:91:42
 add-t17 : tie.Need-add-t17 Inv-loop μ-loop
 add-t17 c = omega arith
 
--- src/walk.rt:91:17
 returns : tie.Need-returns Inv-loop μ-loop
 returns c =
     let y = c .before .before .before in
@@ -51,19 +42,15 @@ returns c =
     let o = sym (y .next-read .ensures (g .i + l .loop .j)) ∙ ap (stepped (g .i + l .loop .j)) (c .before .test .given .1) in
     left-stop _ _ _ _ (l .loop .inv .2) (omega arith) _ (past-failed (g .d) (g .i + l .loop .j) (l .loop .here) (g .s .now) _ _ o)
 
--- src/walk.rt:93:25
 enum-known-start : tie.Need-enum-known-start Inv-loop μ-loop
 enum-known-start c = search needs
 
--- src/walk.rt:94:50
 add-t18 : tie.Need-add-t18 Inv-loop μ-loop
 add-t18 c = omega arith
 
--- src/walk.rt:94:50
 add-t19 : tie.Need-add-t19 Inv-loop μ-loop
 add-t19 c = omega arith
 
--- src/walk.rt:94:17
 returns-2 : tie.Need-returns-2 Inv-loop μ-loop
 returns-2 c =
     let y = c .before .before .before in
@@ -72,11 +59,9 @@ returns-2 c =
     let o = sym (y .next-read .ensures (g .i + l .loop .j)) ∙ ap (stepped (g .i + l .loop .j)) (c .before .start .given .1) in
     left-stop _ _ _ _ (l .loop .inv .2) (omega arith) _ (past-short (g .d) (g .i + l .loop .j) (l .loop .here) (g .s .now) _ _ o)
 
--- src/walk.rt:96:27
 enum-known-start-2 : tie.Need-enum-known-start-2 Inv-loop μ-loop
 enum-known-start-2 c = search needs
 
--- src/walk.rt:97:17
 returns-3 : tie.Need-returns-3 Inv-loop μ-loop
 returns-3 c =
     let y = c .before .before .before in
@@ -85,19 +70,15 @@ returns-3 c =
     let o = sym (y .next-read .ensures (g .i + l .loop .j)) ∙ ap (stepped (g .i + l .loop .j)) (c .before .start2 .given .1) in
     left-stop _ _ _ _ (l .loop .inv .2) (omega arith) _ (past-short (g .d) (g .i + l .loop .j) (l .loop .here) (g .s .now) _ _ o)
 
--- src/walk.rt:99:27
 enum-known-behind : tie.Need-enum-known-behind Inv-loop μ-loop
 enum-known-behind c = search needs
 
--- src/walk.rt:101:17
 add-j : tie.Need-add-j Inv-loop μ-loop
 add-j c = omega arith
 
--- src/walk.rt:88:5
 loop-less : tie.Need-loop-less Inv-loop μ-loop
 loop-less c = omega arith
 
--- src/walk.rt:88:5
 loop-again : tie.Need-loop-again Inv-loop μ-loop
 loop-again c =
     let y = c .before .before .before in
@@ -107,7 +88,6 @@ loop-again c =
     let o = sym (y .next-read .ensures k) ∙ ap (stepped k) (c .before .behind .given .1) in
     (omega arith, next-passed-within (g .d) k (l .loop .here) (g .s .now) _ o, left-next _ _ _ _ (l .loop .inv .2) _ (past-next (g .d) k (l .loop .here) (g .s .now) _ o (g .i + (l .loop .j + 1)) (omega arith)))
 
--- src/walk.rt:82:1
 returns-4 : tie.Need-returns-4 Inv-loop μ-loop
 returns-4 c =
     let l = c .before in
