@@ -32,12 +32,13 @@
 extern "C" {
 #endif
 
-/* A whole file's extent; refused, the entry at fault, from one, or 0 for the header and the directory's place. */
+/* A whole file's extent; refused, the entry or read at fault, from one, or 0 for the header, the directory's place and
+   the index. */
 typedef struct jt_verdict {
     uint64_t refusal;
     uint64_t entry;
     uint64_t extent;
-    uint64_t unjudged; /* 0 for ABIF */
+    uint64_t unjudged; /* 0 for ABIF and SFF */
 } jt_verdict;
 
 /* A directory's place and its number of entries. */
@@ -92,6 +93,52 @@ typedef struct jt_listed {
     uint64_t count;
 } jt_listed;
 
+/* jt_sff_header and jt_sff_read name a struct and a function each. So these two structs have no typedef: write
+   `struct jt_sff_header` and `struct jt_sff_read` for the type, in C++ too. */
+
+/* The common header of an SFF file. With no index, its offset and length are 0. */
+struct jt_sff_header {
+    uint64_t refusal;
+    uint64_t index_offset;
+    uint64_t index_length;
+    uint64_t reads;
+    uint64_t header_length;
+    uint64_t key_length;
+    uint64_t flows;
+    uint64_t flow_letters_start;
+    uint64_t key_start;
+};
+
+/* A read of an SFF file. The name has `name_length` bytes, the flow values are `flows` big-endian 16-bit numbers, and
+   steps, letters and qualities are `bases` bytes each. Base positions count from one: the clips as they stand in the
+   file, 0 for none, and the first and last base of the insert. Where first is past last, the insert is the empty part
+   at the letters' start. */
+struct jt_sff_read {
+    uint64_t refusal;
+    uint64_t start;
+    uint64_t name_start;
+    uint64_t name_length;
+    uint64_t bases;
+    uint64_t quality_left;
+    uint64_t quality_right;
+    uint64_t adapter_left;
+    uint64_t adapter_right;
+    uint64_t flows_start;
+    uint64_t steps_start;
+    uint64_t letters_start;
+    uint64_t qualities_start;
+    uint64_t first;
+    uint64_t last;
+    uint64_t insert_start;
+    uint64_t insert_length;
+};
+
+/* A flow's position, from one. */
+typedef struct jt_flow {
+    uint64_t refusal;
+    uint64_t flow;
+} jt_flow;
+
 /* Whether the bytes are a whole ABIF file, and its extent. */
 jt_verdict jt_abif_judge(const uint8_t *bytes, size_t len);
 
@@ -111,6 +158,26 @@ jt_part jt_abif_text(const uint8_t *bytes, size_t len, uint32_t name, int32_t nu
    the lookup's, 10 for a type whose elements are not whole numbers, 12, 13. Refused, `out` is unchanged. */
 jt_listed jt_abif_whole_numbers(const uint8_t *bytes, size_t len, uint32_t name, int32_t number, uint64_t first,
                                 int64_t *out, size_t room);
+
+/* Whether the bytes are a whole SFF file, and its extent. What stands in the reads is not judged. */
+jt_verdict jt_sff_judge(const uint8_t *bytes, size_t len);
+
+/* The common header. */
+struct jt_sff_header jt_sff_header(const uint8_t *bytes, size_t len);
+
+/* Read `k`, from one: the checks of the header and of all reads up to this one, then of what stands in it. */
+struct jt_sff_read jt_sff_read(const uint8_t *bytes, size_t len, uint64_t k);
+
+/* Where the reads from number `first` on start, as many as are left, at the front of `out`. All reads are checked, but
+   not what stands in them. Refusals: the header's, 7, the reads', 13. Refused, `out` is unchanged. */
+jt_listed jt_sff_places(const uint8_t *bytes, size_t len, uint64_t first, uint64_t *out, size_t room);
+
+/* The read that starts at this place: the checks of the header, then of this read alone. At a place that jt_sff_places
+   gives, the answer is that of jt_sff_read. */
+struct jt_sff_read jt_sff_read_at(const uint8_t *bytes, size_t len, uint64_t start);
+
+/* The flow that base `base`, from one, of read `k` was called from. Refusals: those of jt_sff_read, 12. */
+jt_flow jt_sff_flow_of_base(const uint8_t *bytes, size_t len, uint64_t k, uint64_t base);
 
 #ifdef __cplusplus
 }

@@ -1,7 +1,6 @@
 -- SFF: the flow of a base.
 -- Assumes nothing.
-use Prim.Native.Nat.{ℕ, zero, suc, _+_}
-use mathlib.Core.List.{List}
+use Prim.Native.Nat.{ℕ, _+_}
 use Rattle.reading.specs.Choice.{isNumberOf}
 use Rattle.reading.specs.Check.{Check, Answer, ok, refused, done, need, provided, _>>=_, _>>_}
 use Rattle.sff.specs.declared.position.BasePosition.{BasePosition}
@@ -9,13 +8,8 @@ use Rattle.sff.specs.declared.position.FlowPosition.{FlowPosition}
 use Rattle.sff.specs.declared.lookup.Read.{Read}
 use Rattle.sff.specs.declared.flow.Flow.{Flow}
 use Rattle.sff.specs.declared.flow.Flow.the-variants.{At, Refused}
-use Rattle.sff.specs.Contents.{flowStep}
+use Rattle.sff.specs.Steps.{stepSum}
 use Rattle.sff.specs.Lookup.{readReading}
-
--- the sum of the n flow steps from place p on
-unfoldable pub stepSum : List ℕ → ℕ → ℕ → ℕ
-stepSum l p zero = 0
-stepSum l p (suc n) = flowStep l p + stepSum l (p + 1) n
 
 -- base i's flow is the sum of the first i steps; no such base 12
 unfoldable pub flowOf : Read → BasePosition → Check FlowPosition

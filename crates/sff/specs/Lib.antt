@@ -3,7 +3,8 @@ pub mod Header
 pub mod Read
 pub mod Walk
 pub mod Judge
-pub mod Contents
+pub mod Clips
+pub mod Steps
 pub mod Lookup
 pub mod Places
 pub mod Flow

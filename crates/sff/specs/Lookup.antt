@@ -12,9 +12,10 @@ use Rattle.sff.specs.declared.lookup.ReadPart.the-variants.{Name, Flows,
 use Rattle.sff.specs.declared.lookup.Found.{Found}
 use Rattle.sff.specs.declared.lookup.Found.the-variants.{At, Refused}
 use Rattle.sff.specs.Header.{header}
-use Rattle.sff.specs.Read.{present}
+use Rattle.sff.specs.Read.{present, flowsStart, stepsStart, lettersStart, qualitiesStart}
 use Rattle.sff.specs.Walk.{skipIndex, beforeRead}
-use Rattle.sff.specs.Contents.{clipsCheck, stepsCheck, flowsStart, stepsStart, lettersStart, qualitiesStart, firstBase, lastBase, insert}
+use Rattle.sff.specs.Clips.{clipsCheck, firstBase, lastBase, insert}
+use Rattle.sff.specs.Steps.{stepsCheck}
 
 -- all that is told of a read with these header fields, in a file of f flows
 unfoldable pub readOf : ℕ → ReadHeader → Read

@@ -35,6 +35,19 @@ dataStart d = d .start + d .«header_length»
 abbrev pub readEnd : ℕ → ReadHeader → ℕ
 readEnd f d = dataStart d + padded (2 * f + 3 * d .bases)
 
+-- where the parts of a read's data start, in a file of f flows
+abbrev pub flowsStart : ReadHeader → ℕ
+flowsStart d = dataStart d
+
+abbrev pub stepsStart : ℕ → ReadHeader → ℕ
+stepsStart f d = flowsStart d + 2 * f
+
+abbrev pub lettersStart : ℕ → ReadHeader → ℕ
+lettersStart f d = stepsStart f d + d .bases
+
+abbrev pub qualitiesStart : ℕ → ReadHeader → ℕ
+qualitiesStart f d = lettersStart f d + d .bases
+
 -- a read that is there: its header, and the bytes up to its end
 pub record Present : Type 0 where
   pub fields : ReadHeader

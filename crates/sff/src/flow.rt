@@ -1,35 +1,20 @@
 // The flow of a base.
-use crate::contents::wide;
 use crate::lookup::Found;
 use crate::lookup::Read;
 use crate::lookup::read_number;
 use crate::position::BasePosition;
 use crate::position::FlowPosition;
-use reading::number::byte;
+use crate::steps::sum_of;
 ghost use mathlib.Core.Path.{_≡_};
-ghost use Prim.Native.Nat.{_+_, _≤_, _<_};
+ghost use Prim.Native.Nat.{_+_, _≤_};
 ghost use lib.ListN.{length};
 ghost use Rattle.reading.specs.Check.{answer};
-ghost use Rattle.sff.specs.Flow.{stepSum, flowOf, flowReading, flow};
+ghost use Rattle.sff.specs.Flow.{flowOf, flowReading, flow};
 
 // The position of a base's flow, or the refusal.
 pub enum Flow {
     At(FlowPosition),
     Refused(u8),
-}
-
-fn sum_of(steps: &[u8]) -> u64
-    requires { ⌜ length (now steps) < 0x100000000 ⌝ }
-    ensures { λ r. ⌜ r ≡ stepSum (now (steps .entry)) 0 (length (now (steps .entry))) ⌝ }
-{
-    let n = steps.len();
-    let mut sum = 0;
-    let mut i = 0;
-    while i < n {
-        sum += wide(byte(steps, i));
-        i += 1;
-    }
-    sum
 }
 
 fn flow_in(s: &[u8], r: Read, base: BasePosition) -> Flow

@@ -1,5 +1,5 @@
 // SFF files over lent bytes: judging, the header, and reads by number or by place.
-pub(crate) mod contents;
+pub(crate) mod clips;
 pub mod flow;
 pub mod header;
 pub mod judge;
@@ -8,4 +8,5 @@ pub(crate) mod padding;
 pub mod places;
 pub mod position;
 pub(crate) mod read;
+pub(crate) mod steps;
 pub(crate) mod walk;

@@ -1,8 +1,7 @@
 // A read, by its number or by its place.
-use crate::contents::clips_hold;
-use crate::contents::first_base;
-use crate::contents::last_base;
-use crate::contents::steps_hold;
+use crate::clips::clips_hold;
+use crate::clips::first_base;
+use crate::clips::last_base;
 use crate::header::Header;
 use crate::header::Opened;
 use crate::header::read_fields;
@@ -11,6 +10,7 @@ use crate::read::Framed;
 use crate::read::ReadHeader;
 use crate::read::frame;
 use crate::read::read_header_of;
+use crate::steps::steps_hold;
 use crate::walk::Reached;
 use crate::walk::Skipped;
 use crate::walk::skip_index;
@@ -22,7 +22,8 @@ ghost use Prim.Native.Nat.{ℕ, _+_, _≤_, _<_};
 ghost use lib.ListN.{length};
 ghost use Rattle.reading.specs.Check.{answer, mapAnswer};
 ghost use Rattle.reading.specs.Part.{shown, handedBack};
-ghost use Rattle.sff.specs.Contents.{stepsStart, insertFrom};
+ghost use Rattle.sff.specs.Clips.{insertFrom};
+ghost use Rattle.sff.specs.Read.{stepsStart};
 ghost use Rattle.sff.specs.Lookup.{readOf, readContents, readFrom, readIn, readReading, readAtReading, found, spanOf};
 
 // All that is told of a read: its header's fields, where its parts start, and the first and last base of its insert.

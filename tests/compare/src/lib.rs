@@ -1,14 +1,15 @@
-//! Compares the library's C functions with an ABIF reader of its own.
+//! Compares the library's C functions with readers of its own.
 
+pub mod abif;
 pub mod answers;
+pub mod arguments;
+pub mod big_endian;
 pub mod damage;
-pub mod draft;
-pub mod generate;
+pub mod format;
 pub mod groups;
-pub mod library;
 pub mod program;
-pub mod questions;
 pub mod random;
-pub mod reader;
+pub mod refusal;
 pub mod report;
 pub mod samples;
+pub mod sff;

@@ -1,6 +1,7 @@
-//! Runs all test groups, or stores the sample files: `compare samples FOLDER`.
+//! Runs all test groups, or those whose names begin so: `compare groups BEGINNING`; or stores the
+//! sample files: `compare samples FOLDER`.
 
-use compare::groups::GROUPS;
+use compare::groups;
 use compare::report::Group;
 use compare::samples;
 use std::env;
@@ -10,19 +11,21 @@ use std::process::ExitCode;
 fn main() -> ExitCode {
     let arguments: Vec<String> = env::args().skip(1).collect();
     match arguments.as_slice() {
-        [] => run_groups(),
+        [] => run_groups(""),
+        [command, beginning] if command == "groups" => run_groups(beginning),
         [command, folder] if command == "samples" => store_samples(Path::new(folder)),
         _ => {
-            eprintln!("usage: compare [samples FOLDER]");
+            eprintln!("usage: compare [groups BEGINNING | samples FOLDER]");
             ExitCode::from(2)
         }
     }
 }
 
-fn run_groups() -> ExitCode {
+fn run_groups(beginning: &str) -> ExitCode {
     let mut passed = 0;
     let mut failed = 0;
-    for (name, run) in GROUPS {
+    let chosen = groups::all().into_iter();
+    for (name, run) in chosen.filter(|(name, _)| name.starts_with(beginning)) {
         let mut group = Group::new(name);
         run(&mut group);
         if group.finish() {

@@ -1,6 +1,8 @@
-//! The lines that the program prints for its standard input, as far as it is an ABIF file or unknown.
+//! The lines that the program prints for its standard input, as far as it is ABIF, SFF or unknown.
 
-use crate::reader::{self, Entry};
+use crate::abif::reader::Entry;
+use crate::refusal::Refused;
+use crate::{abif, sff};
 use std::fmt::Write;
 
 const MOST_BYTES: usize = 65_536;
@@ -9,29 +11,38 @@ pub fn lines(input: &[u8]) -> String {
     if input.len() > MOST_BYTES {
         return "too long\n".to_string();
     }
-    if !input.starts_with(b"ABIF") {
-        return "unknown\n".to_string();
-    }
-    match reader::judge(input) {
-        Ok(extent) => whole(input, extent),
-        Err(refused) => format!(
-            "ABIF refused {} at {}\n",
-            refused.refusal as u64, refused.entry
-        ),
+    if input.starts_with(b"ABIF") {
+        abif_lines(input)
+    } else if input.starts_with(b".sff") {
+        first_line("SFF", input, sff::reader::judge(input))
+    } else {
+        "unknown\n".to_string()
     }
 }
 
-fn whole(input: &[u8], extent: usize) -> String {
-    let mut text = format!("ABIF whole {extent} of {}\n", input.len());
-    if let Ok(directory) = reader::open(input) {
+fn first_line(format: &str, input: &[u8], judged: Result<usize, Refused>) -> String {
+    match judged {
+        Ok(extent) => format!("{format} whole {extent} of {}\n", input.len()),
+        Err(refused) => {
+            let number = refused.refusal as u64;
+            format!("{format} refused {number} at {}\n", refused.entry)
+        }
+    }
+}
+
+// Only a whole file has lines for its entries.
+fn abif_lines(input: &[u8]) -> String {
+    let judged = abif::reader::judge(input);
+    let mut text = first_line("ABIF", input, judged);
+    if let (Ok(_), Ok(directory)) = (judged, abif::reader::open(input)) {
         for entry in directory.entries(input) {
-            text.push_str(&line(&entry));
+            text.push_str(&entry_line(&entry));
         }
     }
     text
 }
 
-fn line(entry: &Entry) -> String {
+fn entry_line(entry: &Entry) -> String {
     let mut text = String::new();
     for byte in entry.tag.name.to_be_bytes() {
         text.push(if (32..=126).contains(&byte) {

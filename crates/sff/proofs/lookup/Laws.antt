@@ -25,9 +25,10 @@ use Rattle.sff.specs.declared.lookup.Read.{Read}
 use Rattle.sff.specs.declared.lookup.ReadPart.{ReadPart}
 use Rattle.sff.specs.declared.lookup.ReadPart.the-variants.{Name, Flows, Steps, Letters, Qualities, Insert}
 use Rattle.sff.specs.Padding.{padded}
-use Rattle.sff.specs.Read.{readEnd, present, framing}
+use Rattle.sff.specs.Read.{readEnd, present, framing, stepsStart, lettersStart}
 use Rattle.sff.specs.Walk.{skipIndex, beforeRead}
-use Rattle.sff.specs.Contents.{clipsCheck, stepsCheck, stepsStart, lettersStart, rightClip, firstBase, lastBase, insertFrom, insert}
+use Rattle.sff.specs.Clips.{clipsCheck, rightClip, firstBase, lastBase, insertFrom, insert}
+use Rattle.sff.specs.Steps.{stepsCheck}
 use Rattle.sff.specs.Lookup.{readOf, readContents, readFrom, readIn, readReading, readAtReading, spanOf}
 use Rattle.sff.proofs.padding.Laws.{padded-bounds}
 use Rattle.sff.proofs.read.Laws.{fields, present-there}

@@ -1,107 +1,104 @@
-//! Every beginning of many small files.
+//! Every beginning of many small files, in any format.
 
 use crate::answers::Verdict;
-use crate::damage::{bases, certain_faults, random_byte_changes, random_changes};
-use crate::generate::{long_directory, random_file};
-use crate::questions::{ask_library, ask_reader, questions, Answer, Question};
+use crate::damage::{random_byte_changes, random_changes};
+use crate::format::{Answer, Format, Question};
 use crate::random::Random;
-use crate::reader::Tag;
 use crate::report::Group;
 
 const LONGEST: usize = 700;
 const RANDOM_WHOLE: usize = 300;
 const RANDOM_CHANGED: usize = 150;
 const RANDOM_BYTES_CHANGED: usize = 80;
+const MOST_ENTRIES: usize = 5;
+const ENTRIES_OF_A_LONGER_FILE: usize = 40;
 
-pub fn every_cut(group: &mut Group) {
-    for (file, tags) in files() {
-        cut_file(group, &file, &tags);
+pub fn every_cut<F: Format>(group: &mut Group) {
+    for (file, draft) in files::<F>() {
+        cut_file(group, &file, &F::questions(&file, draft.as_ref()));
     }
 }
 
-fn files() -> Vec<(Vec<u8>, Vec<Tag>)> {
+type File<F> = (Vec<u8>, Option<<F as Format>::Draft>);
+
+fn drafted<F: Format>(draft: F::Draft) -> File<F> {
+    (F::bytes(&draft), Some(draft))
+}
+
+fn files<F: Format>() -> Vec<File<F>> {
     let mut random = Random::new(31);
     let mut files = Vec::new();
-    for base in bases() {
-        files.push((base.bytes(), base.tags()));
-        for fault in certain_faults(&base) {
+    for base in F::bases() {
+        for fault in F::certain_faults(&base) {
             let mut draft = base.clone();
-            fault.apply(&mut draft);
-            files.push((draft.bytes(), draft.tags()));
+            F::apply(fault, &mut draft);
+            files.push(drafted::<F>(draft));
         }
+        files.push(drafted::<F>(base));
     }
-    let mut add = |wanted: usize, make: &mut dyn FnMut() -> (Vec<u8>, Vec<Tag>)| {
+    let mut add = |wanted: usize, make: &mut dyn FnMut() -> File<F>| {
         let target = files.len() + wanted;
         while files.len() < target {
-            let (bytes, tags) = make();
-            if bytes.len() <= LONGEST {
-                files.push((bytes, tags));
+            let file = make();
+            if file.0.len() <= LONGEST {
+                files.push(file);
             }
         }
     };
     add(RANDOM_WHOLE, &mut || {
-        let draft = random_file(&mut random, 5);
-        (draft.bytes(), draft.tags())
+        drafted::<F>(F::random_file(&mut random, MOST_ENTRIES))
     });
     add(RANDOM_CHANGED, &mut || {
-        let draft = random_changes(&mut random);
-        (draft.bytes(), draft.tags())
+        drafted::<F>(random_changes::<F>(&mut random))
     });
     add(RANDOM_BYTES_CHANGED, &mut || {
-        (random_byte_changes(&mut random), Vec::new())
+        (random_byte_changes::<F>(&mut random), None)
     });
-    let longer = long_directory(&mut random, 40);
-    files.push((longer.bytes(), longer.tags()));
+    let longer = F::long_file(&mut random, ENTRIES_OF_A_LONGER_FILE);
+    files.push(drafted::<F>(longer));
     files
 }
 
 // Asks every call on every beginning, each in a buffer of exactly its own length.
-fn cut_file(group: &mut Group, file: &[u8], tags: &[Tag]) {
-    let asked = questions(file, tags);
-    let full: Vec<Answer> = asked.iter().map(|asked| ask_library(file, asked)).collect();
-    let extent = extent_of(file);
+fn cut_file<Q: Question>(group: &mut Group, file: &[u8], asked: &[Q]) {
+    let extent = extent_of::<Q>(file);
+    let on_the_file: Vec<(Q::Answer, Option<usize>)> = asked
+        .iter()
+        .map(|question| {
+            let settled = extent.filter(|_| question.holds_from_extent(file));
+            (question.ask_library(file), settled)
+        })
+        .collect();
     for length in 0..=file.len() {
         group.input();
         let cut = file[..length].to_vec().into_boxed_slice();
-        for (question, full) in asked.iter().zip(&full) {
-            let answer = ask_library(&cut, question);
-            let expected = ask_reader(&cut, question);
+        for (question, (full, settled)) in asked.iter().zip(&on_the_file) {
+            let answer = question.ask_library(&cut);
+            let expected = question.ask_reader(&cut);
             group.check(answer == expected, file, || {
                 format!("cut to {length}: {question:?}: library {answer:?}, reader {expected:?}")
             });
-            let due = answer_is_due(question, &answer, full, length, extent);
-            group.check(due, file, || {
+            group.check(is_due(&answer, full, length, *settled), file, || {
                 format!("cut to {length}: {question:?}: {answer:?}, on the full file {full:?}")
             });
         }
     }
 }
 
-fn extent_of(file: &[u8]) -> Option<usize> {
-    match ask_library(file, &Question::Judge) {
-        Answer::Verdict(verdict) if verdict.refusal == 0 => Some(verdict.extent as usize),
-        _ => None,
-    }
+fn extent_of<Q: Question>(file: &[u8]) -> Option<usize> {
+    let verdict = Q::JUDGE.ask_library(file).verdict()?;
+    (verdict.refusal == 0).then_some(verdict.extent as usize)
 }
 
-// A cut answers as the full file or that it is cut short, and a whole file's extent parts the two.
-fn answer_is_due(
-    question: &Question,
-    answer: &Answer,
-    full: &Answer,
-    length: usize,
-    extent: Option<usize>,
-) -> bool {
-    match (question, extent) {
-        (Question::Judge, Some(extent)) if length >= extent => {
-            let whole = Verdict {
-                extent: extent as u64,
-                ..Verdict::default()
-            };
-            *answer == Answer::Verdict(whole)
+// A cut answers as the full file or that it is cut short, and a whole file's extent, where the
+// answer is settled, parts the two; judging must find the same extent in every longer cut.
+fn is_due<A: Answer>(answer: &A, full: &A, length: usize, settled: Option<usize>) -> bool {
+    match (settled, answer.verdict()) {
+        (Some(extent), Some(verdict)) if length >= extent => {
+            verdict == Verdict::whole(extent as u64)
         }
-        (Question::Judge, Some(_)) => answer.is_cut_short(),
-        (_, Some(extent)) if length >= extent => answer == full,
+        (Some(_), Some(_)) => answer.is_cut_short(),
+        (Some(extent), None) if length >= extent => answer == full,
         _ => answer == full || answer.is_cut_short(),
     }
 }

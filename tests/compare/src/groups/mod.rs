@@ -1,43 +1,28 @@
 //! The test groups.
 
-mod cuts;
-mod damaged;
+pub mod cuts;
+pub mod damaged;
 mod program_lines;
-mod published;
-mod whole;
+pub mod whole;
 
-use crate::questions::{ask_library, ask_reader, questions};
-use crate::reader::Tag;
+use crate::format::{Format, Question};
 use crate::report::Group;
+use crate::{abif, sff};
 
 pub type Run = fn(&mut Group);
 
-pub const GROUPS: [(&str, Run); 16] = [
-    ("published samples", published::samples),
-    ("every type and small size", whole::small_sizes),
-    ("dates and times at every bound", whole::dates_and_times),
-    ("special floats", whole::floats),
-    ("texts", whole::texts),
-    ("long directories", whole::long_directories),
-    ("long items", whole::long_items),
-    ("whole files", whole::random_files),
-    ("one rule broken", damaged::single_changes),
-    ("two rules broken", damaged::pairs),
-    ("several changes", damaged::several_changes),
-    ("changed bytes", damaged::changed_bytes),
-    ("random bytes", damaged::random_bytes),
-    ("short files", damaged::short_files),
-    ("every cut", cuts::every_cut),
-    ("program lines", program_lines::lines),
-];
+pub fn all() -> Vec<(&'static str, Run)> {
+    let program: (&str, Run) = ("program lines", program_lines::lines);
+    [&abif::GROUPS[..], &sff::GROUPS, &[program]].concat()
+}
 
 /// Compares library and reader in every call on this file, and sees that the file stays as it is.
-pub fn compare_file(group: &mut Group, bytes: &[u8], tags: &[Tag]) {
+pub fn compare_file<F: Format>(group: &mut Group, bytes: &[u8], draft: Option<&F::Draft>) {
     group.input();
     let lent = bytes.to_vec().into_boxed_slice();
-    for question in questions(bytes, tags) {
-        let expected = ask_reader(bytes, &question);
-        let answer = ask_library(&lent, &question);
+    for question in F::questions(bytes, draft) {
+        let expected = question.ask_reader(bytes);
+        let answer = question.ask_library(&lent);
         group.check(answer == expected, bytes, || {
             format!("{question:?}: library {answer:?}, reader {expected:?}")
         });
@@ -45,4 +30,15 @@ pub fn compare_file(group: &mut Group, bytes: &[u8], tags: &[Tag]) {
     group.check(*lent == *bytes, bytes, || {
         "the library changed the file's bytes".to_string()
     });
+}
+
+/// Sees that library and reader both give the published answer.
+pub fn expect<Q: Question>(group: &mut Group, bytes: &[u8], question: Q, expected: Q::Answer) {
+    let library = question.ask_library(bytes);
+    let reader = question.ask_reader(bytes);
+    for (side, answer) in [("library", library), ("reader", reader)] {
+        group.check(answer == expected, bytes, || {
+            format!("{question:?}: {side} {answer:?}, published {expected:?}")
+        });
+    }
 }

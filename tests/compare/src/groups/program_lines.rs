@@ -1,11 +1,13 @@
 //! The built program's standard output.
 
+use crate::abif::{self, Abif};
 use crate::damage::{random_byte_changes, random_changes};
-use crate::generate::{long_directory, random_file};
+use crate::format::Format;
 use crate::program;
 use crate::random::Random;
 use crate::report::Group;
 use crate::samples;
+use crate::sff::{self, Sff};
 use std::io::{self, Write};
 use std::path::{Path, PathBuf};
 use std::process::{Command, Stdio};
@@ -30,11 +32,13 @@ pub fn lines(group: &mut Group) {
 
 // A read of standard input may hand out less than the whole file.
 fn in_two_pieces(group: &mut Group, program: &Path) {
-    for length in [156, LONGEST_INPUT, LONGEST_INPUT + 1] {
-        let mut input = samples::one_inline_item();
-        input.resize(length, 0);
-        for first in [0, 3, 4, 100, length - 1] {
-            compare_lines(group, program, &input, first);
+    for file in [abif::samples::one_inline_item(), sff::samples::one_read()] {
+        for length in [file.len(), LONGEST_INPUT, LONGEST_INPUT + 1] {
+            let mut input = file.clone();
+            input.resize(length, 0);
+            for first in [0, 3, 4, 50, length - 1] {
+                compare_lines(group, program, &input, first);
+            }
         }
     }
 }
@@ -64,28 +68,41 @@ fn stored_samples(group: &mut Group, program: &Path) {
 }
 
 fn generated_inputs() -> Vec<Vec<u8>> {
-    let mut random = Random::new(41);
     let mut inputs = at_the_limit();
-    for _ in 0..GENERATED {
-        inputs.push(random_file(&mut random, 12).bytes());
-        inputs.push(random_changes(&mut random).bytes());
-        inputs.push(random_byte_changes(&mut random));
-    }
-    inputs.push(long_directory(&mut random, 999).bytes());
-    for mark in ["", "A", "AB", "ABI", "ABIG", "abif", "FIBA", "\0ABIF", " "] {
+    inputs.extend(generated_files::<Abif>(999));
+    inputs.extend(generated_files::<Sff>(500));
+    let abif = ["A", "AB", "ABI", "ABIG", "abif", "FIBA", "\0ABIF"];
+    let sff = [".", ".s", ".sf", ".sfg", ".SFF", "ffs.", "\0.sff", "sff"];
+    for mark in ["", " "].into_iter().chain(abif).chain(sff) {
         inputs.push(mark.into());
         inputs.push(format!("{mark}{}", "x".repeat(200)).into());
     }
     inputs
 }
 
-// A whole file, an unknown one and one of zeros, as long as the program takes and one byte less or more.
+fn generated_files<F: Format>(most: usize) -> Vec<Vec<u8>> {
+    let mut random = Random::new(41);
+    let mut files = vec![F::bytes(&F::long_file(&mut random, most))];
+    for _ in 0..GENERATED {
+        files.push(F::bytes(&F::random_file(&mut random, 12)));
+        files.push(F::bytes(&random_changes::<F>(&mut random)));
+        files.push(random_byte_changes::<F>(&mut random));
+    }
+    files
+}
+
+// Whole files, an unknown one and one of zeros, at and around the longest that the program takes.
 fn at_the_limit() -> Vec<Vec<u8>> {
     let mut inputs = Vec::new();
     for length in [LONGEST_INPUT - 1, LONGEST_INPUT, LONGEST_INPUT + 1, 200_000] {
-        let mut whole = samples::one_item_at_an_offset();
-        whole.resize(length, b'x');
-        inputs.push(whole);
+        for file in [
+            abif::samples::one_item_at_an_offset(),
+            sff::samples::one_read(),
+        ] {
+            let mut whole = file;
+            whole.resize(length, b'x');
+            inputs.push(whole);
+        }
         inputs.push(vec![b'x'; length]);
         inputs.push(vec![0; length]);
     }

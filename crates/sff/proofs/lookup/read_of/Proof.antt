@@ -3,7 +3,7 @@ use mathlib.Core.Path.{_∙_, ap}
 use native.Mathlib.Omega.{arith}
 use borrow.Author.Needs.{needs}
 use Rattle.reading.specs.Part.{Span}
-use Rattle.sff.specs.Contents.{flowsStart, stepsStart, lettersStart, qualitiesStart}
+use Rattle.sff.specs.Read.{flowsStart, stepsStart, lettersStart, qualitiesStart}
 use Rattle.sff.specs.Lookup.{readOf}
 use Rattle.sff.proofs.lookup.Laws.{last-below, insert-of}
 use Rattle.sff.proofs.lookup.read_of.Statement.{statement}

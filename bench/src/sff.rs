@@ -1,0 +1,67 @@
+//! SFF: judging, and all reads of a large file in order.
+
+use crate::timing::compare_times;
+use compare::answers::Verdict;
+use compare::random::Random;
+use compare::sff::answers::Read;
+use compare::sff::{generate, library, reader};
+use std::hint::black_box;
+
+const ROUNDS: usize = 101;
+const LEAST_LENGTH: usize = 50_000_000;
+
+/// Reads of 400 to 500 bases with 800 flows, and an index behind them.
+pub fn instrument_file() -> Vec<u8> {
+    let file = generate::instrument_file(&mut Random::new(1), LEAST_LENGTH).bytes();
+    assert!(file.len() >= LEAST_LENGTH);
+    file
+}
+
+pub fn judging(file: &[u8]) {
+    let expected = Verdict::whole(file.len() as u64);
+    assert_eq!(Verdict::from(reader::judge(file)), expected);
+    assert_eq!(library::judge(file), expected);
+    compare_times(
+        &format!("judging an SFF file of {} bytes", file.len()),
+        ROUNDS,
+        || {
+            black_box(library::judge(black_box(file)));
+        },
+        || {
+            let _ = black_box(reader::judge(black_box(file)));
+        },
+    );
+}
+
+/// The library finds all places in one call and then reads at each; the reader walks once.
+pub fn every_read(file: &[u8]) {
+    let mut places = vec![0; library::header(file).reads as usize];
+    check_reads(file, &mut places);
+    compare_times(
+        &format!("reading its {} reads in order", places.len()),
+        ROUNDS,
+        || {
+            let file = black_box(file);
+            black_box(library::places(file, 1, &mut places));
+            for &place in black_box(&places) {
+                black_box(library::read_at(file, place));
+            }
+        },
+        || {
+            let _ = black_box(reader::every_read(black_box(file), |read| {
+                let _ = black_box(read);
+            }));
+        },
+    );
+}
+
+// Both sides read the same, and refuse nothing.
+fn check_reads(file: &[u8], places: &mut [u64]) {
+    let mut plain: Vec<Read> = Vec::new();
+    let walked = reader::every_read(file, |read| plain.push(read.into()));
+    assert_eq!(walked, Ok(()));
+    assert_eq!(library::places(file, 1, places).refusal, 0);
+    assert!(plain.iter().all(|read| read.refusal == 0));
+    let ours = places.iter().map(|&place| library::read_at(file, place));
+    assert!(ours.eq(plain));
+}

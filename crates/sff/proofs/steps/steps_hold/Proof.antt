@@ -1,0 +1,30 @@
+use borrow.Author.Needs.{needs}
+use Rattle.sff.proofs.steps.Laws.{steps-none, steps-zero, steps-on}
+use Rattle.sff.proofs.steps.steps_hold.Statement.{statement}
+use Rattle.sff.proofs.steps.steps_hold.Tie as tie
+
+returns : tie.Need-returns
+returns c l =
+    let g = c .before .before .args in
+    steps-none (g .flows) (g .steps .now) l 0 _ (c .if1 .taken)
+
+byte-requires : tie.Need-byte-requires
+byte-requires c κs = search needs
+
+returns-2 : tie.Need-returns-2
+returns-2 c l =
+    let b = c .before in
+    let g = b .before .before .before .args in
+    steps-zero (g .flows) (g .steps .now) l 0 _ (b .before .if1 .left) _ (b .byte .ensures) (c .if2 .taken)
+
+sum-of-requires : tie.Need-sum-of-requires
+sum-of-requires c κs = search needs
+
+returns-3 : tie.Need-returns-3
+returns-3 c l =
+    let b = c .before .before in
+    let g = b .before .before .before .args in
+    steps-on (g .flows) (g .steps .now) l 0 _ (b .before .if1 .left) _ (b .byte .ensures) (c .before .if2 .left) _ (c .sum-of .ensures)
+
+pub steps-hold-spec : {M : Type 1} → statement M
+steps-hold-spec = tie.close (tie.spec returns byte-requires returns-2 sum-of-requires returns-3)

@@ -1,0 +1,69 @@
+// The flow steps of a read.
+use reading::number::byte;
+ghost use mathlib.Core.Path.{_≡_};
+ghost use mathlib.Core.List.{List};
+ghost use Prim.Native.Nat.{ℕ, _+_, _≤_, _<_};
+ghost use lib.ListN.{length};
+ghost use Rattle.reading.specs.Choice.{pick};
+ghost use Rattle.reading.specs.Check.{answer, ok, refused};
+ghost use Rattle.sff.specs.Steps.{stepsCheck, stepSum};
+
+fn wide(b: u8) -> u16
+    ensures { λ r. ⌜ (r ≡ b) × (r < 256) ⌝ }
+{
+    b as u16
+}
+
+// The sum of a few steps, in 16 bits: the machine adds more of them at once than in 64.
+fn chunk_sum(steps: &[u8]) -> u16
+    requires { ⌜ length (now steps) ≤ 256 ⌝ }
+    ensures { λ r. ⌜ r ≡ stepSum (now (steps .entry)) 0 (length (now (steps .entry))) ⌝ }
+{
+    let n = steps.len();
+    let mut sum = 0;
+    let mut i = 0;
+    while i < n {
+        sum += wide(byte(steps, i));
+        i += 1;
+    }
+    sum
+}
+
+fn chunk_end(at: usize, n: usize) -> usize
+    requires { ⌜ at < n ⌝ }
+    ensures { λ r. ⌜ (at < r) × (r ≤ n) × (r ≤ at + 256) ⌝ }
+{
+    if n - at < 256 {
+        return n;
+    }
+    at + 256
+}
+
+pub(crate) fn sum_of(steps: &[u8]) -> u64
+    requires { ⌜ length (now steps) < 0x100000000 ⌝ }
+    ensures { λ r. ⌜ r ≡ stepSum (now (steps .entry)) 0 (length (now (steps .entry))) ⌝ }
+{
+    let n = steps.len();
+    let mut sum = 0;
+    let mut at = 0;
+    while at < n {
+        let end = chunk_end(at, n);
+        sum += chunk_sum(&steps[at..end]) as u64;
+        at = end;
+    }
+    sum
+}
+
+// The first step is at least 1, and no running sum passes the flows: sums never fall, so the last one tells.
+pub(crate) fn steps_hold(flows: u16, steps: &[u8]) -> bool
+    requires { ⌜ length (now steps) < 0x100000000 ⌝ }
+    ensures { λ r. ⌜ ((l : List ℕ) → pick r (ok tt) (refused 11 0) ≡ answer (stepsCheck flows (now (steps .entry)) 0 (length (now (steps .entry)))) l) ⌝ }
+{
+    if steps.len() == 0 {
+        return true;
+    }
+    if byte(steps, 0) < 1 {
+        return false;
+    }
+    sum_of(steps) <= flows as u64
+}

@@ -1,0 +1,63 @@
+//! The library's ABIF functions behind safe calls.
+
+use super::answers::{Element, Found, Opened, Part};
+use super::reader::Tag;
+use crate::answers::{Listed, Verdict};
+
+extern "C" {
+    fn jt_abif_judge(bytes: *const u8, len: usize) -> Verdict;
+    fn jt_abif_open(bytes: *const u8, len: usize) -> Opened;
+    fn jt_abif_lookup(bytes: *const u8, len: usize, name: u32, number: i32) -> Found;
+    fn jt_abif_element(bytes: *const u8, len: usize, name: u32, number: i32, index: u64)
+        -> Element;
+    fn jt_abif_text(bytes: *const u8, len: usize, name: u32, number: i32) -> Part;
+    fn jt_abif_whole_numbers(
+        bytes: *const u8,
+        len: usize,
+        name: u32,
+        number: i32,
+        first: u64,
+        out: *mut i64,
+        room: usize,
+    ) -> Listed;
+}
+
+pub fn judge(bytes: &[u8]) -> Verdict {
+    // SAFETY: the pointer and the length are those of one slice.
+    unsafe { jt_abif_judge(bytes.as_ptr(), bytes.len()) }
+}
+
+pub fn open(bytes: &[u8]) -> Opened {
+    // SAFETY: the pointer and the length are those of one slice.
+    unsafe { jt_abif_open(bytes.as_ptr(), bytes.len()) }
+}
+
+pub fn lookup(bytes: &[u8], tag: Tag) -> Found {
+    // SAFETY: the pointer and the length are those of one slice.
+    unsafe { jt_abif_lookup(bytes.as_ptr(), bytes.len(), tag.name, tag.number) }
+}
+
+pub fn element(bytes: &[u8], tag: Tag, index: u64) -> Element {
+    // SAFETY: the pointer and the length are those of one slice.
+    unsafe { jt_abif_element(bytes.as_ptr(), bytes.len(), tag.name, tag.number, index) }
+}
+
+pub fn text(bytes: &[u8], tag: Tag) -> Part {
+    // SAFETY: the pointer and the length are those of one slice.
+    unsafe { jt_abif_text(bytes.as_ptr(), bytes.len(), tag.name, tag.number) }
+}
+
+pub fn whole_numbers(bytes: &[u8], tag: Tag, first: u64, out: &mut [i64]) -> Listed {
+    // SAFETY: each pointer and the length behind it are those of one slice.
+    unsafe {
+        jt_abif_whole_numbers(
+            bytes.as_ptr(),
+            bytes.len(),
+            tag.name,
+            tag.number,
+            first,
+            out.as_mut_ptr(),
+            out.len(),
+        )
+    }
+}

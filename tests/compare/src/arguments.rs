@@ -1,0 +1,36 @@
+//! Arguments for calls, at and past their bounds.
+
+pub const PAST_16_BITS: u64 = 1 << 16;
+pub const PAST_32_BITS: u64 = 1 << 32;
+const MOST_TAKEN_WHOLE: usize = 10;
+
+/// Of a long list a few at its front, in its middle and at its end.
+pub fn sample<T: Copy>(list: &[T]) -> Vec<T> {
+    let count = list.len();
+    if count <= MOST_TAKEN_WHOLE {
+        return list.to_vec();
+    }
+    let places = [0, 1, count / 3, count / 2, count - 2, count - 1];
+    places.iter().map(|&place| list[place]).collect()
+}
+
+/// Each number once.
+pub fn distinct(mut numbers: Vec<u64>) -> Vec<u64> {
+    numbers.sort_unstable();
+    numbers.dedup();
+    numbers
+}
+
+/// Numbers from one around a count, in its middle, and far past it.
+pub fn numbers_around(count: u64) -> Vec<u64> {
+    let mut numbers = vec![0, 1, 2, count.div_ceil(2), count, count + 1];
+    numbers.extend([PAST_16_BITS + 1, PAST_32_BITS, PAST_32_BITS + 1, u64::MAX]);
+    distinct(numbers)
+}
+
+/// Rooms for an output of so many elements.
+pub fn rooms(exact: usize) -> Vec<usize> {
+    let mut rooms = vec![0, exact.saturating_sub(1), exact, exact + 3];
+    rooms.dedup();
+    rooms
+}
