@@ -1,9 +1,11 @@
 -- SFF: the places where the reads from number `first` on start.
 -- Assumes nothing.
-use Prim.Native.Nat.{ℕ, _-_}
+use Prim.Native.Nat.{ℕ, _-_, _<_}
+use mathlib.Core.Path.{_≡_}
 use mathlib.Core.List.{List}
 use lib.Dec.{leb}
-use Rattle.reading.specs.Check.{Check, Answer, ok, refused, done, provided, at, _>>=_, _>>_}
+use lib.ListN.{length, getD}
+use Rattle.reading.specs.Check.{Check, Answer, ok, refused, answer, done, provided, at, _>>=_, _>>_}
 use Rattle.sff.specs.declared.header.Header.{Header}
 use Rattle.sff.specs.declared.walk.Boundary.{Boundary}
 use Rattle.sff.specs.declared.places.Listed.{Listed}
@@ -32,6 +34,16 @@ unfoldable pub placesReading : ℕ → ℕ → Check (List ℕ)
 placesReading first room = do
   d ← header
   placesIn d first room
+
+-- p is one of the places that a call gives for the file s
+pub record Given (s : List ℕ) (p : ℕ) : Type 0 where
+  pub first : ℕ
+  pub room : ℕ
+  pub places : List ℕ
+  pub answered : answer (placesReading first room) s ≡ ok places
+  pub index : ℕ
+  pub among : index < length places
+  pub here : getD places index 0 ≡ p
 
 -- the answer of document 01 that each case stands for
 abbrev pub listed : Listed → Answer ℕ

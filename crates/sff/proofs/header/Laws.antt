@@ -1,16 +1,20 @@
 -- The header, from the answers of its parts.
 -- Assumes nothing.
-use Prim.Native.Nat.{ℕ, _≤_, _<_}
+use Prim.Native.Nat.{ℕ, _+_, _≤_, _<_}
 use mathlib.Core.Path.{_≡_, subst}
 use mathlib.Core.List.{List}
+use native.Mathlib.Omega.{arith}
 use lib.ListN.{length, take}
 use Rattle.reading.specs.declared.check.Test.{Test}
 use Rattle.reading.specs.Number.{be}
 use Rattle.reading.specs.Check.{Outcome, passed, failed, short, ok, run, answer}
 use Rattle.reading.proofs.Steps.{run-bind, run-done, run-need-present, run-need-absent}
-use Rattle.reading.proofs.Passed.{bind-ok, need-ok, done-ok}
+use Rattle.reading.proofs.Passed.{bind-ok, must-ok, need-ok, done-ok}
+use Rattle.reading.proofs.Signed.{equal-to-is}
 use Rattle.sff.specs.declared.header.Header.{Header}
+use Rattle.sff.specs.Padding.{padded}
 use Rattle.sff.specs.Header.{headerOf, headerCheck, indexCheck, header}
+use Rattle.sff.proofs.padding.Laws.{padded-bounds}
 
 -- the header's fields, and what the two groups of tests find
 abbrev pub fields : List ℕ → Header
@@ -53,3 +57,19 @@ header-there s d w =
     let c = bind-ok _ _ s d (b .2) in
     let e = bind-ok _ _ s d (c .2) in
     subst (λ (x : Header). x .«header_length» ≤ length s) (done-ok _ _ s (e .2)) (need-ok _ _ s (e .0) (e .1) .0)
+
+-- and its length is at least that of the fields in front
+pub header-known : (s : List ℕ) (d : Header) → answer header s ≡ ok d → 31 ≤ d .«header_length»
+unfolding header headerCheck
+header-known s d w =
+    let a = bind-ok _ _ s d w in
+    let b = bind-ok _ _ s d (a .2) in
+    let c = bind-ok _ _ s d (b .2) in
+    let e = bind-ok _ _ s d (c .2) in
+    let u = bind-ok _ _ s (b .0) (b .1) in
+    let v = bind-ok _ _ s (b .0) (u .2) in
+    let y = bind-ok _ _ s (b .0) (v .2) in
+    let z = headerOf (a .0) in
+    let n : z .«header_length» ≡ padded (31 + z .flows + z .«key_length») = equal-to-is _ _ (must-ok _ _ 4 s (b .0) (y .2)) in
+    let h = padded-bounds (31 + z .flows + z .«key_length») in
+    subst (λ (x : Header). 31 ≤ x .«header_length») (done-ok _ d s (e .2)) (omega (arith, n, h))

@@ -3,14 +3,14 @@
 use Prim.Native.Nat.{ℕ, _+_, _-_, _*_, _≤_, _<_}
 use mathlib.Core.Path.{_≡_, refl, sym, _∙_, ap, subst}
 use mathlib.Core.List.{List}
-use mathlib.Core.Bool.{true}
 use native.Mathlib.Omega.{arith}
 use lib.ListN.{length, take, drop}
-use borrow.Author.Tests.{eq-eqb, ne-eqb, eqb-true}
+use borrow.Author.Tests.{eq-eqb, ne-eqb}
 use Rattle.reading.specs.declared.check.Rule.the-variants.{EqualTo}
 use Rattle.reading.specs.Number.{be}
 use Rattle.reading.specs.Check.{passed, failed, short, ok, run, answer, holds, unsignedField}
 use Rattle.reading.proofs.Width.{be-in-part, be-taken}
+use Rattle.reading.proofs.Signed.{equal-to-is}
 use Rattle.reading.proofs.Passed.{bind-ok, done-ok, must-ok, need-ok}
 use Rattle.reading.proofs.Steps.{run-bind, run-done, run-must, run-need-present, run-need-absent}
 use Rattle.sff.specs.declared.read.ReadHeader.{ReadHeader}
@@ -71,10 +71,6 @@ pub record There (f p : ℕ) (s : List ℕ) (r : Present) : Type 0 where
   pub within : readEnd f (r .fields) ≤ length s
   pub upTo : r .upTo ≡ take (readEnd f (r .fields)) s
 
-equal : (w p v n : ℕ) → holds (EqualTo n) (unsignedField w p v) ≡ true → v ≡ n
-unfolding holds
-equal w p v n h = eqb-true v n h
-
 pub present-there : (f p : ℕ) (s : List ℕ) (r : Present) → answer (present f p) s ≡ ok r → There f p s r
 unfolding present
 present-there f p s r w =
@@ -84,7 +80,7 @@ present-there f p s r w =
     let d = bind-ok _ _ s r (c .2) in
     let m = need-ok _ _ s (a .0) (a .1) in
     let n = need-ok _ _ s (d .0) (d .1) in
-    subst (There f p s) (done-ok _ _ s (d .2)) (record { fixed = m .0; header = ap (λ (l : List ℕ). readHeaderOf l p) (m .1); named = equal _ _ _ _ (must-ok _ _ _ s (b .0) (b .1)); within = n .0; upTo = n .1 })
+    subst (There f p s) (done-ok _ _ s (d .2)) (record { fixed = m .0; header = ap (λ (l : List ℕ). readHeaderOf l p) (m .1); named = equal-to-is _ _ (must-ok _ _ _ s (b .0) (b .1)); within = n .0; upTo = n .1 })
 
 -- a read ends within the file
 pub framing-within : (f p : ℕ) (s : List ℕ) (e : ℕ) → answer (framing f p) s ≡ ok e → e ≤ length s

@@ -2,7 +2,7 @@
 -- Assumes nothing.
 use Prim.Native.Nat.{ℕ, zero, suc, _+_, _-_, _≤_, _<_}
 use mathlib.Core.Path.{_≡_, refl, sym, _∙_, ap, subst}
-use mathlib.Core.List.{List, _∷_}
+use mathlib.Core.List.{List, [], _∷_}
 use mathlib.Core.Bool.{Bool, true, false}
 use lib.ListN.{length}
 use lib.Dec.{eqb}
@@ -116,6 +116,20 @@ past-within d s n i b c l h =
     let a = bind-ok _ _ s c (run-ok _ s c h) in
     subst (λ (x : Boundary). x .position ≤ length s) (done-ok _ _ s (a .2)) (walk-within d s n i b l (a .0) (a .1))
 
+-- what passes where a read does
+pub record Passed (d : Header) (b : Boundary) (s : List ℕ) (r : Placed) : Type 0 where
+  pub skipped : Boundary
+  pub skip-ok : answer (skipIndex d b) s ≡ ok skipped
+  pub framing-ok : answer (framing (d .flows) (r .start)) s ≡ ok (r .behind .position)
+  pub start : skipped .position ≡ r .start
+
+pub next-ok : (d : Header) (i : ℕ) (b : Boundary) (s : List ℕ) (r : Placed) → answer (nextRead d i b) s ≡ ok r → Passed d b s r
+unfolding nextRead
+next-ok d i b s r w =
+    let a = bind-ok _ _ s r w in
+    let e = bind-ok _ _ s r (a .2) in
+    subst (Passed d b s) (done-ok _ r s (e .2)) (record { skipped = a .0; skip-ok = a .1; framing-ok = at-ok (i + 1) _ s (e .0) (e .1); start = refl })
+
 -- the boundary before a read, from what the walk finds
 module _ (d : Header) (k : ℕ) (s : List ℕ) where
   pub before-none : k < 1 → refused 7 0 ≡ answer (beforeRead d k) s
@@ -135,13 +149,28 @@ module _ (d : Header) (k : ℕ) (s : List ℕ) where
       pub before-found : (o : Outcome Boundary) → o ≡ run (walkPast d (k - 1) 0 (front d)) s → answerAt 0 (plain o) ≡ answer (beforeRead d k) s
       before-found o q = ap (λ (x : Outcome Boundary). answerAt 0 (plain x)) q ∙ ap (answerAt 0) (sym (answer-plain _ s)) ∙ before-walk
 
-  -- where there is one, the read is one of the file's, and the boundary lies within the file
-  pub before-ok : (b : Boundary) → d .«header_length» ≤ length s → answer (beforeRead d k) s ≡ ok b → (1 ≤ k) × (k ≤ d .reads) × (b .position ≤ length s)
+  -- where there is one, the read is one of the file's, the walk has come there, and the boundary lies within the file
+  pub before-walked : (b : Boundary) → answer (beforeRead d k) s ≡ ok b → (1 ≤ k) × (k ≤ d .reads) × (answer (walkPast d (k - 1) 0 (front d)) s ≡ ok b)
   unfolding beforeRead holds
-  before-ok b u w =
+  before-walked b w =
       let a = bind-ok _ _ s b w in
       let n = number-within k (d .reads) (must-ok _ _ 7 s (a .0) (a .1)) in
-      (n .0, n .1, past-within d s (k - 1) 0 (front d) b u (answer-ok _ s b (at-ok 0 _ s b (a .2))))
+      (n .0, n .1, at-ok 0 _ s b (a .2))
+
+  pub before-ok : (b : Boundary) → d .«header_length» ≤ length s → answer (beforeRead d k) s ≡ ok b → (1 ≤ k) × (k ≤ d .reads) × (b .position ≤ length s)
+  before-ok b u w =
+      let n = before-walked b w in
+      (n .0, n .1, past-within d s (k - 1) 0 (front d) b u (answer-ok _ s b (n .2)))
+
+-- the boundary before a read of the file, from what is walked before it
+pub before-is : (d : Header) (k : ℕ) (s : List ℕ) (v : Passage) → 1 ≤ k → k ≤ d .reads → answer (walk d (k - 1) 0 (front d)) s ≡ ok v → answer (beforeRead d k) s ≡ ok (v .behind)
+unfolding beforeRead walkPast holds
+before-is d k s v h l w = simp (answer-bind, answer-must, le-leb 1 k h, le-leb k (d .reads) l, answer-at, w, answer-done)
+
+-- a walk over no reads
+pub walk-none : (d : Header) (i : ℕ) (b : Boundary) (s : List ℕ) → answer (walk d 0 i b) s ≡ ok (record { starts = []; behind = b })
+unfolding walk
+walk-none d i b s = answer-done _ s
 
 -- where a read passes, its number plays no part
 module _ (d : Header) (s : List ℕ) where
