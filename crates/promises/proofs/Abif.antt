@@ -33,4 +33,4 @@ under (entry i) s x w = Reach.entry-reading-under i s x w
 under (wholeNumbers a b i out) s x w = Reach.numbers-under a b i (length out) s x w
 
 pub abif-demand3 : Demand3 abif
-abif-demand3 = demand3 abif (record { fits = fits; extent = Reach.extent; under = under })
+abif-demand3 = demand3 abif (record { fits = fits; extent = Reach.extent; under = λ c s x w _. under c s x w })

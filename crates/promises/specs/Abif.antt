@@ -80,4 +80,4 @@ writes (entry i) v = []
 writes (wholeNumbers a b i out) v = v
 
 abbrev pub abif : Format
-abif = record { Call = Call; Value = Answered; checks = checks; span = span; Item = λ _. ℤ; lent = lent; writes = writes; judging = judge; extent = λ x. x }
+abif = record { Call = Call; Value = Answered; checks = checks; span = span; Item = λ _. ℤ; lent = lent; writes = writes; asks = λ _ _. Unit {0}; judging = judge; extent = λ x. x }

@@ -22,6 +22,8 @@ pub record Format : Type 1 where
   pub Item : Call → Type 0
   pub lent : (c : Call) → List (Item c)
   pub writes : (c : Call) → Value c → List (Item c)
+  -- what a call has to ask for, so that the extent holds its answer: nothing, unless it is given a place in the file
+  pub asks : Call → List ℕ → Type 0
   -- judging, and the extent in what it answers
   pub judging : Call
   pub extent : Value judging → ℕ
@@ -58,4 +60,4 @@ module _ (f : Format) where
     -- below the extent judging refuses with 1
     pub below : (file : Part) (v : f .Value (f .judging)) → JudgedWhole file v → (n : ℕ) → n < f .extent v → CutShort (f .judging) (cutTo n file)
     -- from the extent on every call, judging among them, shows all that it shows on the file
-    pub from : (file : Part) (v : f .Value (f .judging)) → JudgedWhole file v → (n : ℕ) → f .extent v ≤ n → (c : f .Call) → seen c (cutTo n file) ≡ seen c file
+    pub from : (file : Part) (v : f .Value (f .judging)) → JudgedWhole file v → (n : ℕ) → f .extent v ≤ n → (c : f .Call) → f .asks c (file .bytes) → seen c (cutTo n file) ≡ seen c file

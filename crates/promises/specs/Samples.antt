@@ -8,7 +8,11 @@ use lib.ListN.{take, replicate}
 use Rattle.reading.specs.Check.{Answer, ok, refused, answer}
 use Rattle.abif.specs.Element.{whole}
 use Rattle.promises.specs.Demand3.{Format}
+use Rattle.sff.specs.declared.lookup.Read.{Read}
+use Rattle.sff.specs.declared.lookup.ReadPart.the-variants.{Insert}
 use Rattle.promises.specs.Abif.{judge, lookup, element, abif}
+use Rattle.promises.specs.Sff as Sff
+use Rattle.promises.specs.Sff.{sff}
 
 -- the header of a file with one directory entry, at 128
 unfoldable pub header : List ℕ
@@ -29,6 +33,18 @@ unfoldable pub monthThirteen : List ℕ
 unfolding header
 monthThirteen = header ++ (0x52 ∷ 0x55 ∷ 0x4e ∷ 0x44 ∷ 0x00 ∷ 0x00 ∷ 0x00 ∷ 0x01 ∷ 0x00 ∷ 0x0a ∷ 0x00 ∷ 0x04 ∷ 0x00 ∷ 0x00 ∷ 0x00 ∷ 0x01 ∷ 0x00 ∷ 0x00 ∷ 0x00 ∷ 0x04 ∷ 0x07 ∷ 0xd3 ∷ 0x0d ∷ 0x01 ∷ 0x00 ∷ 0x00 ∷ 0x00 ∷ 0x00 ∷ [])
 
+-- an SFF header of 4 flows and 4 key letters, for so many reads
+unfoldable pub sffHeader : ℕ → List ℕ
+sffHeader n = 0x2e ∷ 0x73 ∷ 0x66 ∷ 0x66 ∷ 0x00 ∷ 0x00 ∷ 0x00 ∷ 0x01 ∷ 0x00 ∷ 0x00 ∷ 0x00 ∷ 0x00 ∷ 0x00 ∷ 0x00 ∷ 0x00 ∷ 0x00 ∷ 0x00 ∷ 0x00 ∷ 0x00 ∷ 0x00 ∷ 0x00 ∷ 0x00 ∷ 0x00 ∷ n ∷ 0x00 ∷ 0x28 ∷ 0x00 ∷ 0x04 ∷ 0x00 ∷ 0x04 ∷ 0x01 ∷ 0x54 ∷ 0x41 ∷ 0x43 ∷ 0x47 ∷ 0x54 ∷ 0x43 ∷ 0x41 ∷ 0x47 ∷ 0x00 ∷ []
+
+-- a read of name ABCDE and bases TAC, flow steps 1 1 1, left quality clip 2
+unfoldable pub threeBases : List ℕ
+threeBases = 0x00 ∷ 0x18 ∷ 0x00 ∷ 0x05 ∷ 0x00 ∷ 0x00 ∷ 0x00 ∷ 0x03 ∷ 0x00 ∷ 0x02 ∷ 0x00 ∷ 0x00 ∷ 0x00 ∷ 0x00 ∷ 0x00 ∷ 0x00 ∷ 0x41 ∷ 0x42 ∷ 0x43 ∷ 0x44 ∷ 0x45 ∷ 0x00 ∷ 0x00 ∷ 0x00 ∷ 0x00 ∷ 0x64 ∷ 0x00 ∷ 0x64 ∷ 0x00 ∷ 0x64 ∷ 0x00 ∷ 0x00 ∷ 0x01 ∷ 0x01 ∷ 0x01 ∷ 0x54 ∷ 0x41 ∷ 0x43 ∷ 0x28 ∷ 0x28 ∷ 0x28 ∷ 0x00 ∷ 0x00 ∷ 0x00 ∷ 0x00 ∷ 0x00 ∷ 0x00 ∷ 0x00 ∷ []
+
+-- what is told of it, where it starts at 40
+abbrev pub readAt40 : Read
+readAt40 = record { start = 40; «name_start» = 56; «name_length» = 5; flows = 4; bases = 3; «quality_left» = 2; «quality_right» = 0; «adapter_left» = 0; «adapter_right» = 0; «flows_start» = 64; «steps_start» = 72; «letters_start» = 75; «qualities_start» = 78; first = record { 0 = 2 }; last = record { 0 = 3 }; «insert_start» = 76; «insert_length» = 2 }
+
 pub record Sample : Type 1 where
   pub format : Format
   pub file : List ℕ
@@ -42,6 +58,7 @@ abbrev pub table : List Sample
 table =
     -- W1
     record { format = abif; file = []; call = judge; answers = refused 1 0 }
+    ∷ record { format = sff; file = []; call = Sff.judge; answers = refused 1 0 }
     -- W2
     ∷ record { format = abif; file = twoShorts; call = judge; answers = ok 156 }
     -- W3
@@ -55,8 +72,21 @@ table =
     -- W6
     ∷ record { format = abif; file = threeShorts; call = judge; answers = ok 162 }
     ∷ record { format = abif; file = take 161 threeShorts; call = judge; answers = refused 1 1 }
+    -- W7
+    ∷ record { format = sff; file = sffHeader 0; call = Sff.judge; answers = ok 40 }
+    -- W8
+    ∷ record { format = sff; file = sffHeader 1 ++ threeBases; call = Sff.judge; answers = ok 88 }
+    ∷ record { format = sff; file = sffHeader 1 ++ threeBases; call = Sff.read 1 Insert; answers = ok readAt40 }
     -- W12
     ∷ record { format = abif; file = monthThirteen; call = element 0x52554e44 1 1; answers = refused 11 0 }
+    ∷ []
+
+-- no sample of document 01: bytes behind the extent of W7 that look like a read, and what a cut makes of them
+abbrev pub behindTheExtent : List Sample
+behindTheExtent =
+    record { format = sff; file = sffHeader 0 ++ threeBases; call = Sff.judge; answers = ok 40 }
+    ∷ record { format = sff; file = sffHeader 0 ++ threeBases; call = Sff.readAt 40 Insert; answers = ok readAt40 }
+    ∷ record { format = sff; file = take 40 (sffHeader 0 ++ threeBases); call = Sff.readAt 40 Insert; answers = refused 1 0 }
     ∷ []
 
 -- every row holds

@@ -7,7 +7,7 @@ use native.Mathlib.Omega.{arith}
 use lib.ListN.{length, getD}
 use Rattle.reading.specs.Check.{ok, answer, done}
 use Rattle.reading.proofs.Cut.{answer-ok}
-use Rattle.reading.proofs.Passed.{bind-ok, done-ok, at-ok, bind-answered}
+use Rattle.reading.proofs.Passed.{ok-inj, bind-ok, done-ok, at-ok, bind-answered}
 use Rattle.sff.specs.declared.header.Header.{Header}
 use Rattle.sff.specs.declared.walk.Boundary.{Boundary}
 use Rattle.sff.specs.Header.{header}
@@ -36,6 +36,10 @@ listed-ok s first room places w =
     let c = bind-ok _ _ s places (b .2) in
     let e = bind-ok _ _ s places (c .2) in
     record { head = a .0; head-ok = a .1; before = b .0; before-ok = b .1; reads = c .0; reads-ok = λ i. walk-any (a .0) s (left (a .0) first) (first - 1) i (b .0) (c .0) (at-ok 0 _ s (c .0) (c .1)); starts = done-ok _ places s (e .2) }
+
+-- there is a place for each read
+pub listed-all : (s : List ℕ) (first : ℕ) (places : List ℕ) (g : Listed s first places) (d : Header) → answer header s ≡ ok d → length places ≡ left d first
+listed-all s first places g d e = ap (length {A = ℕ}) (sym (g .starts)) ∙ walk-length (g .head) s (left (g .head) first) 0 (g .before) (g .reads) (g .reads-ok 0) ∙ ap (λ (x : Header). left x first) (ok-inj (sym (g .head-ok) ∙ e))
 
 module _ (s : List ℕ) (first : ℕ) (places : List ℕ) (g : Listed s first places) (j : ℕ) (h : j < length places) where
   abbrev d : Header
