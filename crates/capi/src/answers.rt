@@ -57,3 +57,46 @@ pub struct Listed {
     pub refusal: u64,
     pub count: u64,
 }
+
+// The common header of an SFF file; the flow letters and the key are told by where they start.
+#[repr(C)]
+pub struct SffHeader {
+    pub refusal: u64,
+    pub index_offset: u64,
+    pub index_length: u64,
+    pub reads: u64,
+    pub header_length: u64,
+    pub key_length: u64,
+    pub flows: u64,
+    pub flow_letters_start: u64,
+    pub key_start: u64,
+}
+
+// A read of an SFF file; base positions count from one.
+#[repr(C)]
+pub struct SffRead {
+    pub refusal: u64,
+    pub start: u64,
+    pub name_start: u64,
+    pub name_length: u64,
+    pub bases: u64,
+    pub quality_left: u64,
+    pub quality_right: u64,
+    pub adapter_left: u64,
+    pub adapter_right: u64,
+    pub flows_start: u64,
+    pub steps_start: u64,
+    pub letters_start: u64,
+    pub qualities_start: u64,
+    pub first: u64,
+    pub last: u64,
+    pub insert_start: u64,
+    pub insert_length: u64,
+}
+
+// The position of a flow, from one.
+#[repr(C)]
+pub struct Flow {
+    pub refusal: u64,
+    pub flow: u64,
+}

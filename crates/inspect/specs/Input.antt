@@ -7,7 +7,11 @@ use lib.ListN.{length}
 use Rattle.reading.specs.Choice.{pick}
 use Rattle.reading.specs.Number.{be}
 use Rattle.inspect.specs.declared.input.Input.{Input}
-use Rattle.inspect.specs.declared.input.Input.the-variants.{TooLong, Unknown, Abif}
+use Rattle.inspect.specs.declared.input.Input.the-variants.{TooLong, Unknown, Abif, Sff}
+
+-- what stands behind the marks "ABIF" and ".sff"
+abbrev pub marked : ℕ → Input
+marked n = pick (eqb n 0x41424946) Abif (pick (eqb n 0x2e736666) Sff Unknown)
 
 abbrev pub inputOf : List ℕ → Input
-inputOf s = pick (leb (length s) 65536) (pick (eqb (be 4 s 0) 0x41424946) Abif Unknown) TooLong
+inputOf s = pick (leb (length s) 65536) (marked (be 4 s 0)) TooLong

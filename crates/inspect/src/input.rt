@@ -7,6 +7,7 @@ pub(crate) enum Input {
     TooLong,
     Unknown,
     Abif,
+    Sff,
 }
 
 // Length comes before mark. Of fewer than four bytes those missing read as 0, which no mark has.
@@ -16,8 +17,12 @@ pub(crate) fn input_of(s: &[u8]) -> Input
     if 65536 < s.len() {
         return Input::TooLong;
     }
-    if be32(s, 0) == 0x41424946 {
+    let mark = be32(s, 0);
+    if mark == 0x41424946 {
         return Input::Abif;
+    }
+    if mark == 0x2e736666 {
+        return Input::Sff;
     }
     Input::Unknown
 }

@@ -2,6 +2,7 @@
 mod abif_lines;
 mod input;
 mod line;
+mod sff_lines;
 
 use crate::input::Input;
 use crate::input::input_of;
@@ -13,6 +14,7 @@ fn report(s: &[u8]) {
         Input::TooLong => put(b"too long\n"),
         Input::Unknown => put(b"unknown\n"),
         Input::Abif => abif_lines::put_file(s),
+        Input::Sff => sff_lines::put_file(s),
     }
 }
 

@@ -13,7 +13,10 @@ returns-2 : tie.Need-returns-2
 returns-2 c = search (tests, ← c .before .be32 .ensures)
 
 returns-3 : tie.Need-returns-3
-returns-3 c = search (tests, ← c .before .be32 .ensures)
+returns-3 c = search (tests, ← c .before .before .be32 .ensures)
+
+returns-4 : tie.Need-returns-4
+returns-4 c = search (tests, ← c .before .before .be32 .ensures)
 
 pub input-of-spec : {M : Type 1} → statement M
-input-of-spec = tie.close (tie.spec returns be32-requires returns-2 returns-3)
+input-of-spec = tie.close (tie.spec returns be32-requires returns-2 returns-3 returns-4)

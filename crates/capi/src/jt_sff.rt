@@ -1,0 +1,199 @@
+// The SFF calls. Reads and bases count from one; a part is told by where it starts.
+use crate::answers::Flow;
+use crate::answers::Listed;
+use crate::answers::SffHeader;
+use crate::answers::SffRead;
+use crate::answers::Verdict;
+use sff::flow;
+use sff::header;
+use sff::judge;
+use sff::lookup;
+use sff::places;
+use sff::position::BasePosition;
+ghost use mathlib.Core.Path.{_≡_};
+ghost use lib.ListN.{length};
+ghost use Rattle.reading.specs.Check.{answer, mapAnswer};
+ghost use Rattle.reading.specs.Lent.{filled};
+ghost use Rattle.sff.specs.Header.{header as headerReading, opened};
+ghost use Rattle.sff.specs.Judge.{judging, verdict};
+ghost use Rattle.sff.specs.Lookup.{readReading, readAtReading, found};
+ghost use Rattle.sff.specs.Places.{placesReading, listed};
+ghost use Rattle.sff.specs.Flow.{flowReading, flow as flowAnswer};
+ghost use Rattle.capi.specs.Answers.{asVerdict, asListed};
+ghost use Rattle.capi.specs.Sff.{asHeader, toldRead, refusedRead, asRead, asFlow};
+
+fn as_verdict(v: judge::Verdict) -> Verdict
+    ensures { λ r. ⌜ r ≡ asVerdict (verdict v) ⌝ }
+{
+    match v {
+        judge::Verdict::Whole(x) => Verdict {
+            refusal: 0,
+            entry: 0,
+            extent: x as u64,
+            unjudged: 0,
+        },
+        judge::Verdict::Refused { number, read } => Verdict {
+            refusal: number as u64,
+            entry: read as u64,
+            extent: 0,
+            unjudged: 0,
+        },
+    }
+}
+
+#[no_mangle]
+pub extern "C" fn jt_sff_judge(s: &[u8]) -> Verdict
+    ensures { λ r. ⌜ r ≡ asVerdict (answer judging (now (s .entry))) ⌝ }
+{
+    as_verdict(judge::judge(s))
+}
+
+// The flow letters start at 31, behind the fields, and the key behind the letters.
+fn as_header(o: header::Opened) -> SffHeader
+    ensures { λ r. ⌜ r ≡ asHeader (opened o) ⌝ }
+{
+    match o {
+        header::Opened::At(d) => SffHeader {
+            refusal: 0,
+            index_offset: d.index_offset,
+            index_length: d.index_length as u64,
+            reads: d.reads as u64,
+            header_length: d.header_length as u64,
+            key_length: d.key_length as u64,
+            flows: d.flows as u64,
+            flow_letters_start: 31,
+            key_start: 31 + d.flows as u64,
+        },
+        header::Opened::Refused(n) => SffHeader {
+            refusal: n as u64,
+            index_offset: 0,
+            index_length: 0,
+            reads: 0,
+            header_length: 0,
+            key_length: 0,
+            flows: 0,
+            flow_letters_start: 0,
+            key_start: 0,
+        },
+    }
+}
+
+#[no_mangle]
+pub extern "C" fn jt_sff_header(s: &[u8]) -> SffHeader
+    ensures { λ r. ⌜ r ≡ asHeader (answer headerReading (now (s .entry))) ⌝ }
+{
+    as_header(header::read_fields(s))
+}
+
+fn told_read(r: lookup::Read) -> SffRead
+    ensures { λ t. ⌜ t ≡ toldRead r ⌝ }
+{
+    SffRead {
+        refusal: 0,
+        start: r.start as u64,
+        name_start: r.name_start as u64,
+        name_length: r.name_length as u64,
+        bases: r.bases as u64,
+        quality_left: r.quality_left as u64,
+        quality_right: r.quality_right as u64,
+        adapter_left: r.adapter_left as u64,
+        adapter_right: r.adapter_right as u64,
+        flows_start: r.flows_start as u64,
+        steps_start: r.steps_start as u64,
+        letters_start: r.letters_start as u64,
+        qualities_start: r.qualities_start as u64,
+        first: r.first.0,
+        last: r.last.0,
+        insert_start: r.insert_start as u64,
+        insert_length: r.insert_length as u64,
+    }
+}
+
+fn refused_read(refusal: u8) -> SffRead
+    ensures { λ r. ⌜ r ≡ refusedRead refusal ⌝ }
+{
+    SffRead {
+        refusal: refusal as u64,
+        start: 0,
+        name_start: 0,
+        name_length: 0,
+        bases: 0,
+        quality_left: 0,
+        quality_right: 0,
+        adapter_left: 0,
+        adapter_right: 0,
+        flows_start: 0,
+        steps_start: 0,
+        letters_start: 0,
+        qualities_start: 0,
+        first: 0,
+        last: 0,
+        insert_start: 0,
+        insert_length: 0,
+    }
+}
+
+fn as_read(f: lookup::Found) -> SffRead
+    ensures { λ r. ⌜ r ≡ asRead (found f) ⌝ }
+{
+    match f {
+        lookup::Found::At(r) => told_read(r),
+        lookup::Found::Refused(n) => refused_read(n),
+    }
+}
+
+#[no_mangle]
+pub extern "C" fn jt_sff_read(s: &[u8], k: u64) -> SffRead
+    ensures { λ r. ⌜ r ≡ asRead (answer (readReading k) (now (s .entry))) ⌝ }
+{
+    as_read(lookup::read_number(s, k))
+}
+
+fn as_listed(n: places::Listed) -> Listed
+    ensures { λ r. ⌜ r ≡ asListed (listed n) ⌝ }
+{
+    match n {
+        places::Listed::Count(count) => Listed { refusal: 0, count },
+        places::Listed::Refused(number) => Listed {
+            refusal: number as u64,
+            count: 0,
+        },
+    }
+}
+
+#[no_mangle]
+pub extern "C" fn jt_sff_places(s: &[u8], first: u64, out: &mut [u64]) -> Listed
+    ensures { λ r. ⌜ r ≡ asListed (mapAnswer length (answer (placesReading first (length (now (out .entry)))) (now (s .entry)))) ⌝ }
+    ensures { λ _. ⌜ now (out .exit) ≡ filled (answer (placesReading first (length (now (out .entry)))) (now (s .entry))) (now (out .entry)) ⌝ }
+{
+    as_listed(places::read_places(s, first, out))
+}
+
+#[no_mangle]
+pub extern "C" fn jt_sff_read_at(s: &[u8], start: u64) -> SffRead
+    ensures { λ r. ⌜ r ≡ asRead (answer (readAtReading start) (now (s .entry))) ⌝ }
+{
+    as_read(lookup::read_at(s, start))
+}
+
+fn as_flow(f: flow::Flow) -> Flow
+    ensures { λ r. ⌜ r ≡ asFlow (flowAnswer f) ⌝ }
+{
+    match f {
+        flow::Flow::At(p) => Flow {
+            refusal: 0,
+            flow: p.0,
+        },
+        flow::Flow::Refused(n) => Flow {
+            refusal: n as u64,
+            flow: 0,
+        },
+    }
+}
+
+#[no_mangle]
+pub extern "C" fn jt_sff_flow_of_base(s: &[u8], k: u64, base: u64) -> Flow
+    ensures { λ r. ⌜ r ≡ asFlow (answer (flowReading k (record { 0 = base })) (now (s .entry))) ⌝ }
+{
+    as_flow(flow::flow_of_base(s, k, BasePosition(base)))
+}
