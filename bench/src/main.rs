@@ -11,5 +11,7 @@ fn main() {
     abif::whole_numbers();
     let file = sff::instrument_file();
     sff::judging(&file);
+    sff::places(&file);
+    sff::reads_at_places(&file);
     sff::every_read(&file);
 }

@@ -33,12 +33,49 @@ pub fn judging(file: &[u8]) {
     );
 }
 
-/// The library finds all places in one call and then reads at each; the reader walks once.
-pub fn every_read(file: &[u8]) {
+/// The places of all reads in one call.
+pub fn places(file: &[u8]) {
+    let reads = library::header(file).reads as usize;
+    let mut ours = vec![0; reads];
+    let mut plain = vec![0; reads];
+    compare_times(
+        &format!("finding the places of its {reads} reads"),
+        ROUNDS,
+        || {
+            black_box(library::places(black_box(file), 1, &mut ours));
+        },
+        || {
+            let _ = black_box(reader::places(black_box(file), 1, &mut plain));
+        },
+    );
+    assert_eq!(ours, plain);
+}
+
+/// All reads in order, each at its place.
+pub fn reads_at_places(file: &[u8]) {
     let mut places = vec![0; library::header(file).reads as usize];
     check_reads(file, &mut places);
     compare_times(
-        &format!("reading its {} reads in order", places.len()),
+        "reading each at its place",
+        ROUNDS,
+        || {
+            for &place in black_box(&places) {
+                black_box(library::read_at(black_box(file), place));
+            }
+        },
+        || {
+            for &place in black_box(&places) {
+                let _ = black_box(reader::read_at(black_box(file), place));
+            }
+        },
+    );
+}
+
+/// The library finds all places in one call and then reads at each; the reader walks once, and keeps no places.
+pub fn every_read(file: &[u8]) {
+    let mut places = vec![0; library::header(file).reads as usize];
+    compare_times(
+        "places and reads, against one walk",
         ROUNDS,
         || {
             let file = black_box(file);

@@ -34,12 +34,12 @@ use Rattle.sff.proofs.padding.Laws.{padded-bounds}
 use Rattle.sff.proofs.read.Laws.{fields, present-there}
 
 -- a read's insert
+pick-below : (b : Bool) {m n x : ℕ} → m ≤ x → n ≤ x → pick b m n ≤ x
+pick-below true p q = p
+pick-below false p q = q
+
 clip-below : (d : ReadHeader) (c : ℕ) → rightClip d c ≤ max (d .bases) c
-clip-below d c = go (eqb c 0)
-  where
-    go : (b : Bool) → pick b (d .bases) c ≤ max (d .bases) c
-    go true = omega arith
-    go false = omega arith
+clip-below d c = pick-below (eqb c 0) (omega arith) (omega arith)
 
 pub last-below : (d : ReadHeader) (v : ℕ) → v ≡ lastBase d → v ≤ max (d .bases) (d .«quality_right»)
 last-below d v q =
