@@ -19,9 +19,9 @@ use Rattle.sff.specs.Lookup.{readOf, readContents, readFrom, readIn, readReadin
 use Rattle.promises.specs.Samples.{twoShorts, threeShorts, monthThirteen, sffHeader, threeBases, table, behindTheExtent, AllHold}
 
 pub samples : AllHold table
-unfolding answer be signed entryOf headerCheck boundsCheck directory opening tagAmong typeOf listedCheck rawCheck sizesCheck placeCheck entryCheck judgeEntry judgeEntries judging firstTag dataOf itemOf lookupIn lookingUp wholeAt dateAt timeAt valueAt elementOf elementReading padding padded Header.headerOf Header.headerCheck Header.indexCheck Header.header readHeaderOf present framing skipIndex nextRead walk walkPast beforeRead Judge.ending Judge.judgingReads Judge.judging clipsCheck sumsWithin stepsCheck readOf readContents readFrom readIn readReading twoShorts threeShorts monthThirteen sffHeader threeBases
+unfolding answer be signed entryOf headerCheck boundsCheck directory opening tagAmong typeOf listedCheck rawCheck sizesCheck placeCheck entryCheck judgeEntry judgeEntries judging firstTag dataOf itemOf lookupIn lookingUp wholeAt dateAt timeAt valueAt elementOf elementReading padding padded Header.headerOf Header.markCheck Header.lengthCheck Header.indexCheck Header.header readHeaderOf present framing skipIndex nextRead walk walkPast beforeRead Judge.ending Judge.judgingReads Judge.judging clipsCheck sumsWithin stepsCheck readOf readContents readFrom readIn readReading twoShorts threeShorts monthThirteen sffHeader threeBases
 samples = (refl, (refl, (refl, (refl, (refl, (refl, (refl, (refl, (refl, (refl, (refl, (refl, (refl, (refl, tt))))))))))))))
 
 pub behind-the-extent : AllHold behindTheExtent
-unfolding answer be padding padded Header.headerOf Header.headerCheck Header.indexCheck Header.header readHeaderOf present framing skipIndex nextRead walk Judge.ending Judge.judgingReads Judge.judging clipsCheck sumsWithin stepsCheck readOf readContents readFrom readAtReading sffHeader threeBases
+unfolding answer be padding padded Header.headerOf Header.markCheck Header.lengthCheck Header.indexCheck Header.header readHeaderOf present framing skipIndex nextRead walk Judge.ending Judge.judgingReads Judge.judging clipsCheck sumsWithin stepsCheck readOf readContents readFrom readAtReading sffHeader threeBases
 behind-the-extent = (refl, (refl, (refl, tt)))

@@ -17,7 +17,7 @@ use Rattle.sff.specs.declared.walk.Boundary.{Boundary}
 use Rattle.sff.specs.declared.position.BasePosition.{BasePosition}
 use Rattle.sff.specs.declared.lookup.Read.{Read}
 use Rattle.sff.specs.declared.lookup.ReadPart.the-variants.{Steps}
-use Rattle.sff.specs.Header.{headerOf, headerCheck, indexCheck, header}
+use Rattle.sff.specs.Header.{headerOf, markCheck, lengthCheck, indexCheck, header}
 use Rattle.sff.specs.Read.{readEnd, framing}
 use Rattle.sff.specs.Clips.{clipsCheck}
 use Rattle.sff.specs.Steps.{stepsCheck}
@@ -33,9 +33,13 @@ use Rattle.sff.proofs.walk.Split.{walk-split, Nth, nth}
 use Rattle.sff.proofs.lookup.Laws.{number-fits}
 use Rattle.sff.proofs.places.Numbered.{listed-ok, here, starts-here, passed-here}
 
-tests-none : (a b c : ℕ) (d : Header) (s : List ℕ) → reach (headerCheck a b c d) s ≡ 0
-unfolding headerCheck
-tests-none a b c d s = search (reach-none, reach-must) depth 12
+mark-none : (a b : ℕ) (s : List ℕ) → reach (markCheck a b) s ≡ 0
+unfolding markCheck
+mark-none a b s = search (reach-none, reach-must) depth 12
+
+length-none : (c : ℕ) (d : Header) (s : List ℕ) → reach (lengthCheck c d) s ≡ 0
+unfolding lengthCheck
+length-none c d s = search (reach-none, reach-must) depth 12
 
 index-none : (d : Header) (s : List ℕ) → reach (indexCheck d) s ≡ 0
 unfolding indexCheck
@@ -52,8 +56,9 @@ header-reach s d w =
     let b = bind-ok _ _ s d (a .2) in
     let c = bind-ok _ _ s d (b .2) in
     let e = bind-ok _ _ s d (c .2) in
-    let q : headerOf (a .0) .«header_length» ≡ d .«header_length» = ap (λ (x : Header). x .«header_length») (done-ok _ d s (e .2)) in
-    let m : reach header s ≡ max 31 (headerOf (a .0) .«header_length») = simp (a .3, b .3, c .3, e .3, tests-none, index-none, reach-need, reach-done) (omega arith) in
+    let f = bind-ok _ _ s d (e .2) in
+    let q : headerOf (a .0) .«header_length» ≡ d .«header_length» = ap (λ (x : Header). x .«header_length») (done-ok _ d s (f .2)) in
+    let m : reach header s ≡ max 31 (headerOf (a .0) .«header_length») = simp (a .3, b .3, c .3, e .3, f .3, mark-none, length-none, index-none, reach-need, reach-done) (omega arith) in
     last _ _ (m ∙ ap (max 31) q) (header-known s d w)
 
 ending-reach : (d : Header) (b : Boundary) (s : List ℕ) (x : ℕ) → answer (ending d b) s ≡ ok x → max (b .position) (reach (ending d b) s) ≡ x

@@ -36,11 +36,15 @@ isMet = 2
 abbrev pub sameZero : ℕ → ℕ → Bool
 sameZero a b = pick (eqb a 0) (eqb b 0) (not (eqb b 0))
 
--- the mark ".sff", the version, the format code and the header length
-unfoldable pub headerCheck : ℕ → ℕ → ℕ → Header → Check (Unit {0})
-headerCheck mark version code d = do
+-- the mark ".sff" and the version
+unfoldable pub markCheck : ℕ → ℕ → Check (Unit {0})
+markCheck mark version = do
   must (unsignedField 4 0 mark) (Exactly 0x2e736666) 2
   must (unsignedField 4 4 version) (Exactly 1) 3
+
+-- the format code and the header length
+unfoldable pub lengthCheck : ℕ → Header → Check (Unit {0})
+lengthCheck code d = do
   must (unsignedField 1 30 code) (Exactly 1) 4
   must (headerLength d) (EqualTo (padded (31 + d .flows + d .«key_length»))) 4
 
@@ -52,7 +56,8 @@ indexCheck d = must (indexOffset d) (Other bothOrNeither (sameZero (d .«index_o
 unfoldable pub header : Check Header
 header = do
   h ← need 0 31
-  headerCheck (be 4 h 0) (be 4 h 4) (be 1 h 30) (headerOf h)
+  markCheck (be 4 h 0) (be 4 h 4)
+  lengthCheck (be 1 h 30) (headerOf h)
   indexCheck (headerOf h)
   _ ← need 0 (headerOf h .«header_length»)
   done (headerOf h)

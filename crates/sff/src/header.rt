@@ -13,7 +13,7 @@ ghost use mathlib.Core.List.{List};
 ghost use Prim.Native.Nat.{ℕ};
 ghost use Rattle.reading.specs.Check.{run, answer};
 ghost use Rattle.reading.specs.Explain.{tested};
-ghost use Rattle.sff.specs.Header.{headerOf, headerCheck, indexCheck, header, read, opened};
+ghost use Rattle.sff.specs.Header.{headerOf, markCheck, lengthCheck, indexCheck, header, read, opened};
 
 // The fields of the common header; the flow letters start at 31, and the key behind them.
 pub struct Header {
@@ -80,8 +80,8 @@ fn index_tests(d: Header) -> Tested
     Tested::Passed
 }
 
-fn header_tests(mark: u32, version: u32, code: u8, d: Header) -> Tested
-    ensures { λ r. ⌜ ((l : List ℕ) → tested r ≡ run (headerCheck mark version code d) l) ⌝ }
+fn mark_tests(mark: u32, version: u32) -> Tested
+    ensures { λ r. ⌜ ((l : List ℕ) → tested r ≡ run (markCheck mark version) l) ⌝ }
 {
     let first = Field {
         place: 0,
@@ -94,18 +94,6 @@ fn header_tests(mark: u32, version: u32, code: u8, d: Header) -> Tested
         width: 4,
         sign: false,
         value: version as u64,
-    };
-    let format = Field {
-        place: 30,
-        width: 1,
-        sign: false,
-        value: code as u64,
-    };
-    let length = Field {
-        place: 24,
-        width: 2,
-        sign: false,
-        value: d.header_length as u64,
     };
     if mark != 0x2e736666 {
         return Tested::Failed(Test {
@@ -121,6 +109,24 @@ fn header_tests(mark: u32, version: u32, code: u8, d: Header) -> Tested
             number: 3,
         });
     }
+    Tested::Passed
+}
+
+fn length_tests(code: u8, d: Header) -> Tested
+    ensures { λ r. ⌜ ((l : List ℕ) → tested r ≡ run (lengthCheck code d) l) ⌝ }
+{
+    let format = Field {
+        place: 30,
+        width: 1,
+        sign: false,
+        value: code as u64,
+    };
+    let length = Field {
+        place: 24,
+        width: 2,
+        sign: false,
+        value: d.header_length as u64,
+    };
     if code != 1 {
         return Tested::Failed(Test {
             field: format,
@@ -150,7 +156,10 @@ pub(crate) fn read_header(s: &[u8]) -> HeaderRead
     let version = be32(h, 4);
     let code = byte(h, 30);
     let d = header_of(h);
-    if let Tested::Failed(t) = header_tests(mark, version, code, d) {
+    if let Tested::Failed(t) = mark_tests(mark, version) {
+        return HeaderRead::Bad(t);
+    }
+    if let Tested::Failed(t) = length_tests(code, d) {
         return HeaderRead::Bad(t);
     }
     if let Tested::Failed(t) = index_tests(d) {
