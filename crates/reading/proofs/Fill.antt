@@ -1,13 +1,13 @@
 -- A loop that fills a lent list from its front: what is written, what is left to write, and what stays are the whole.
 -- W m is what m items left would write from the present state.
 -- Assumes nothing.
-use Prim.Native.Nat.{ℕ, zero, suc, _+_, _≤_, _<_}
+use Prim.Native.Nat.{ℕ, zero, suc, _+_, _-_, _≤_, _<_}
 use mathlib.Core.Path.{_≡_, refl, sym, _∙_, ap}
 use mathlib.Core.List.{List, [], _∷_, _++_, append-assoc}
 use native.Mathlib.Numerals.{add-one}
 use native.Mathlib.Omega.{arith}
-use lib.ListN.{length, take, drop, set, length-set, take-append-drop}
-use lib.Seq.{take-suc-set, drop-set-lt}
+use lib.ListN.{length, take, drop, set, length-set, length-drop, take-append-drop}
+use lib.Seq.{take-suc-set, take-set-le, drop-set-lt, drop-set-add, drop-drop}
 use Rattle.reading.proofs.Loop.{Left, left-start, left-next, left-end}
 
 pub record Filling {A : Type 0} (W : ℕ → List A) (n i : ℕ) (o out whole : List A) : Type 0 where
@@ -41,3 +41,48 @@ module _ {A : Type 0} where
         let u : i ≤ n = f .upTo in
         let k : n ≡ i = omega arith in
         sym (take-append-drop i out) ∙ ap (λ (j : ℕ). take i out ++ drop j out) (sym k) ∙ ap (λ (l : List A). take i out ++ (l ++ drop n out)) (sym e) ∙ left-end _ _ _ _ (f .left) u h
+
+-- A loop that fills a lent list from its front and from place n on, in turns, n items each: W m and Y m are what m items left would write there.
+pub record Lanes {A : Type 0} (W Y : ℕ → List A) (n i : ℕ) (o out whole : List A) : Type 0 where
+  pub upTo : i ≤ n
+  pub room : n + n ≤ length out
+  pub same : length out ≡ length o
+  pub left : Left (λ m. take i out ++ (W m ++ (take i (drop n out) ++ (Y m ++ drop n (drop n out))))) n i whole
+
+module _ {A : Type 0} where
+  pub lanes-start : (W Y : ℕ → List A) (n : ℕ) (o : List A) → n + n ≤ length o → Lanes W Y n 0 o o (W n ++ (Y n ++ drop (n + n) o))
+  lanes-start W Y n o h =
+      record {
+        upTo = omega arith;
+        room = h;
+        same = refl;
+        left = rw (← drop-drop n n o) (left-start (λ m. W m ++ (Y m ++ drop n (drop n o))) n);
+      }
+
+  module _ (W Y : ℕ → List A) (n i : ℕ) (o out whole : List A) (f : Lanes W Y n i o out whole) where
+    -- the next item of each is written
+    pub lanes-next : i < n → (v u : A) (W′ Y′ : ℕ → List A) → ((m : ℕ) → W (suc m) ≡ v ∷ W′ m) → ((m : ℕ) → Y (suc m) ≡ u ∷ Y′ m) → Lanes W′ Y′ n (i + 1) o (set (set out i v) (n + i) u) whole
+    lanes-next h v u W′ Y′ g k =
+        let r : n + n ≤ length out = f .room in
+        let l : length (set (set out i v) (n + i) u) ≡ length out = length-set (set out i v) (n + i) u ∙ length-set out i v in
+        let e : length (drop n out) ≡ length out - n = length-drop n out in
+        let q : i < length out = omega arith in
+        let p : i < length (drop n out) = omega arith in
+        let z : suc i ≤ n + i = omega arith in
+        let x : drop n (set (set out i v) (n + i) u) ≡ set (drop n out) i u = drop-set-add n (set out i v) i u ∙ ap (λ (y : List A). set y i u) (drop-set-lt n out i v h) in
+        record {
+          upTo = omega arith;
+          room = omega arith;
+          same = l ∙ f .same;
+          left = left-next _ _ _ _ (f .left) (λ m. take (i + 1) (set (set out i v) (n + i) u) ++ (W′ m ++ (take (i + 1) (drop n (set (set out i v) (n + i) u)) ++ (Y′ m ++ drop n (drop n (set (set out i v) (n + i) u))))))
+              (λ m. rw (x, add-one i, take-set-le (suc i) (set out i v) (n + i) u z, take-suc-set out i v q, take-suc-set (drop n out) i u p, drop-set-lt n (drop n out) i u h, g m, k m) (simp append-assoc));
+        }
+
+    -- all is written
+    pub lanes-end : n ≤ i → W zero ≡ [] → Y zero ≡ [] → out ≡ whole
+    lanes-end h e d =
+        let t : i ≤ n = f .upTo in
+        let k : i ≡ n = omega arith in
+        let z : (take i out ++ (W zero ++ (take i (drop n out) ++ (Y zero ++ drop n (drop n out))))) ≡ whole = left-end _ _ _ _ (f .left) t h in
+        let x : (take i out ++ (take i (drop n out) ++ drop n (drop n out))) ≡ whole = rw (e, d) at z in
+        sym (take-append-drop n out) ∙ ap (λ (x : List A). take n out ++ x) (sym (take-append-drop n (drop n out))) ∙ ap (λ (j : ℕ). take j out ++ (take j (drop n out) ++ drop n (drop n out))) (sym k) ∙ x

@@ -3,17 +3,17 @@
 use Prim.Native.Nat.{ℕ, zero, suc, _+_, _-_, _≤_, _<_}
 use mathlib.Core.Path.{_≡_, refl, sym, _∙_, ap, subst}
 use mathlib.Core.List.{List, [], _∷_, _++_}
-use native.Mathlib.Nat.{zero-add}
+use native.Mathlib.Nat.{zero-add, add-zero}
 use native.Mathlib.Omega.{arith}
 use lib.ListN.{getD}
 use lib.Seq.{getD-append-seam}
-use Rattle.reading.specs.Check.{ok, answer}
-use Rattle.reading.proofs.Steps.{answer-bind, answer-done}
+use Rattle.reading.specs.Check.{Outcome, passed, failed, short, ok, run, answer}
+use Rattle.reading.proofs.Steps.{then, answer-bind, answer-done}
 use Rattle.reading.proofs.Passed.{bind-ok, done-ok}
 use Rattle.sff.specs.declared.header.Header.{Header}
 use Rattle.sff.specs.declared.walk.Boundary.{Boundary}
-use Rattle.sff.specs.Walk.{Placed, nextRead, Passage, walk}
-use Rattle.sff.proofs.walk.Laws.{next-any, walk-any, walk-length}
+use Rattle.sff.specs.Walk.{Placed, nextRead, Passage, walk, walkPast}
+use Rattle.sff.proofs.walk.Laws.{past-failed, past-short, past-next, past-end, next-any, walk-any, walk-length}
 use Rattle.sff.proofs.walk.Reach.{walk-reach}
 
 -- the first m reads of a walk, and the n behind them
@@ -67,6 +67,29 @@ module _ (d : Header) (s : List ℕ) where
       let y = subst (λ (x : Passage). answer (walk d n i (x .behind)) s ≡ ok u) (sym z) k in
       let g = walk-join m n (i + 1) (a .0 .behind) (e .0) u (e .1) (walk-any d s n i (i + 1) (e .0 .behind) u y) in
       subst (λ (j : ℕ). answer (walk d j i b) s ≡ ok (record { starts = v .starts ++ u .starts; behind = u .behind })) (sym q) (simp (answer-bind, a .1, g, answer-done) (ap (λ (x : Passage). ok (record { starts = x .starts ++ u .starts; behind = u .behind })) z))
+
+  -- the boundary behind n reads: behind the first m, then behind the others
+  past-plus : (m n i : ℕ) (b : Boundary) → run (walkPast d (m + n) i b) s ≡ then (run (walkPast d m i b) s) (λ c. run (walkPast d n (i + m) c) s)
+  past-plus zero n i b = ap (λ (k : ℕ). run (walkPast d k i b) s) (zero-add n) ∙ ap (λ (k : ℕ). run (walkPast d n k b) s) (sym (add-zero i)) ∙ ap (λ (o : Outcome Boundary). then o (λ c. run (walkPast d n (i + 0) c) s)) (past-end d i b s)
+  past-plus (suc m) n i b = ap (λ (k : ℕ). run (walkPast d k i b) s) q ∙ go (past-plus m n (i + 1)) (run (nextRead d i b) s) refl
+    where
+      q : suc m + n ≡ suc (m + n)
+      q = omega arith
+
+      f : Boundary → Outcome Boundary
+      f c = run (walkPast d n (i + suc m) c) s
+
+      go : ((c : Boundary) → run (walkPast d (m + n) (i + 1) c) s ≡ then (run (walkPast d m (i + 1) c) s) (λ x. run (walkPast d n (i + 1 + m) x) s)) → (o : Outcome Placed) → run (nextRead d i b) s ≡ o → run (walkPast d (suc (m + n)) i b) s ≡ then (run (walkPast d (suc m) i b) s) f
+      go g (passed r) h =
+          let e : i + 1 + m ≡ i + suc m = omega arith in
+          past-next d i b s r h (i + 1) refl (m + n) ∙ g (r .behind) ∙ ap (λ (k : ℕ). then (run (walkPast d m (i + 1) (r .behind)) s) (λ c. run (walkPast d n k c) s)) e ∙ ap (λ (o : Outcome Boundary). then o f) (sym (past-next d i b s r h (i + 1) refl m))
+      go g (failed t e) h = past-failed d i b s t e h (m + n) ∙ ap (λ (o : Outcome Boundary). then o f) (sym (past-failed d i b s t e h m))
+      go g (short k e) h = past-short d i b s k e h (m + n) ∙ ap (λ (o : Outcome Boundary). then o f) (sym (past-short d i b s k e h m))
+
+  pub past-parts : (m n i : ℕ) (b : Boundary) → m ≤ n → (o : Outcome Boundary) → run (walkPast d m i b) s ≡ o → run (walkPast d n i b) s ≡ then o (λ c. run (walkPast d (n - m) (i + m) c) s)
+  past-parts m n i b l o h =
+      let q : n ≡ m + (n - m) = omega arith in
+      ap (λ (k : ℕ). run (walkPast d k i b) s) q ∙ past-plus m (n - m) i b ∙ ap (λ (x : Outcome Boundary). then x (λ c. run (walkPast d (n - m) (i + m) c) s)) h
 
   -- read j of a walk, counted from 0: what is walked before it, and the read
   pub record Nth (j : ℕ) (b : Boundary) (w : Passage) : Type 0 where
