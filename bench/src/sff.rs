@@ -71,25 +71,39 @@ pub fn reads_at_places(file: &[u8]) {
     );
 }
 
-/// The library finds all places in one call and then reads at each; the reader walks once, and keeps no places.
+/// All places, then all reads: against the same two steps, and against one walk that reads as it goes.
 pub fn every_read(file: &[u8]) {
-    let mut places = vec![0; library::header(file).reads as usize];
+    let reads = library::header(file).reads as usize;
+    let mut ours = vec![0; reads];
+    let mut plain = vec![0; reads];
+    compare_times(
+        "places and reads",
+        ROUNDS,
+        || read_at_places(file, &mut ours),
+        || {
+            let _ = black_box(reader::places(black_box(file), 1, &mut plain));
+            for &place in black_box(&plain) {
+                let _ = black_box(reader::read_at(black_box(file), place));
+            }
+        },
+    );
     compare_times(
         "places and reads, against one walk",
         ROUNDS,
-        || {
-            let file = black_box(file);
-            black_box(library::places(file, 1, &mut places));
-            for &place in black_box(&places) {
-                black_box(library::read_at(file, place));
-            }
-        },
+        || read_at_places(file, &mut ours),
         || {
             let _ = black_box(reader::every_read(black_box(file), |read| {
                 let _ = black_box(read);
             }));
         },
     );
+}
+
+fn read_at_places(file: &[u8], places: &mut [u64]) {
+    black_box(library::places(black_box(file), 1, places));
+    for &place in black_box(&*places) {
+        black_box(library::read_at(black_box(file), place));
+    }
 }
 
 // Both sides read the same, and refuse nothing.

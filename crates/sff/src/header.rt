@@ -6,7 +6,6 @@ use reading::check::Test;
 use reading::check::Tested;
 use reading::number::be16;
 use reading::number::be32;
-use reading::number::be64;
 use reading::number::byte;
 ghost use mathlib.Core.Path.{_≡_};
 ghost use mathlib.Core.List.{List};
@@ -38,11 +37,14 @@ pub(crate) enum HeaderRead {
     Short(usize, usize),
 }
 
+// The index offset is read in two halves, because reading it whole is a call at run time.
 fn header_of(h: &[u8]) -> Header
     ensures { λ r. ⌜ r ≡ headerOf (now (h .entry)) ⌝ }
 {
+    let high = be32(h, 8) as u64;
+    let low = be32(h, 12) as u64;
     Header {
-        index_offset: be64(h, 8),
+        index_offset: 4294967296 * high + low,
         index_length: be32(h, 16),
         reads: be32(h, 20),
         header_length: be16(h, 24),
