@@ -3,6 +3,7 @@ ghost use mathlib.Core.Path.{_≡_};
 ghost use Prim.Native.Nat.{_+_, _<_};
 ghost use Rattle.sff.specs.Padding.{padded};
 
+// n rounded up to 8.
 pub(crate) fn round_up(n: usize) -> usize
     requires { ⌜ n < 0x8000000000000000 ⌝ }
     ensures { λ r. ⌜ (r ≡ padded n) × (r < n + 8) ⌝ }

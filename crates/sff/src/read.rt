@@ -46,7 +46,7 @@ pub(crate) fn read_header_of(h: &[u8], p: usize) -> ReadHeader
     }
 }
 
-// Only the fields that are compared are read, from a part of fixed length.
+// Where the read that starts at p ends. Only the fields that are compared are read, from a part of fixed length.
 pub(crate) fn frame(s: &[u8], flows: u16, p: usize) -> Framed
     requires { ⌜ p ≤ length (now s) ⌝ }
     ensures { λ r. ⌜ framed r ≡ run (framing flows p) (now (s .entry)) ⌝ }

@@ -43,6 +43,7 @@ pub(crate) enum Reached {
     Refused(u8),
 }
 
+// The boundary behind the index where it starts at boundary b, else b.
 pub(crate) fn skip_index(s: &[u8], d: Header, b: Boundary) -> Skipped
     requires { ⌜ b .position ≤ length (now s) ⌝ }
     ensures { λ r. ⌜ skipped r ≡ run (skipIndex d b) (now (s .entry)) ⌝ }
@@ -61,6 +62,7 @@ pub(crate) fn skip_index(s: &[u8], d: Header, b: Boundary) -> Skipped
     })
 }
 
+// The read behind boundary b, and behind the index where that stands between.
 pub(crate) fn next_read(s: &[u8], d: Header, b: Boundary) -> Step
     requires { ⌜ b .position ≤ length (now s) ⌝ }
     ensures { λ r. ⌜ ((i : ℕ) → stepped i r ≡ run (nextRead d i b) (now (s .entry))) ⌝ }
