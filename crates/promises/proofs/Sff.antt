@@ -7,12 +7,11 @@ use native.Mathlib.Omega.{arith}
 use lib.ListN.{length}
 use Rattle.reading.specs.Check.{ok, answer, reach}
 use Rattle.sff.specs.Judge.{judging}
-use Rattle.sff.specs.Places.{placesReading}
 use Rattle.sff.proofs.Reach as Reach
 use Rattle.sff.proofs.lookup.Laws.{number-fits, at-fits}
 use Rattle.sff.proofs.places.Numbered.{listed-ok, listed-all, place-is-read}
 use Rattle.promises.specs.Demand3.{Demand3}
-use Rattle.promises.specs.Sff.{Call, judge, fields, read, readAt, places, flowOfBase, Answered, checks, span, asks, sff, PlacesOfReads}
+use Rattle.promises.specs.Sff.{Call, judge, fields, read, readAt, places, flowOfBase, Answered, checks, span, asks, sff, PlacesAreReads}
 use Rattle.promises.proofs.Demand3.{demand3}
 
 fits : (c : Call) (s : List ℕ) (v : Answered c) → answer (checks c) s ≡ ok v → span c v .start + span c v .size ≤ length s
@@ -34,7 +33,7 @@ under (flowOfBase k i) s x w a = Reach.flow-under k i s x w
 pub sff-demand3 : Demand3 sff
 sff-demand3 = demand3 sff (record { fits = fits; extent = Reach.extent; under = under })
 
-pub places-of-reads : (s : List ℕ) (first room : ℕ) (ps : List ℕ) → answer (placesReading first room) s ≡ ok ps → PlacesOfReads s first room ps
-places-of-reads s first room ps w =
+pub places-are-reads : PlacesAreReads
+places-are-reads s first room ps w =
     let g = listed-ok s first room ps w in
     record { each = λ j h. place-is-read s first ps g j h; all = λ d e. listed-all s first ps g d e }

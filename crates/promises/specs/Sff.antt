@@ -88,6 +88,10 @@ abbrev pub sff : Format
 sff = record { Call = Call; Value = Answered; checks = checks; span = span; Item = λ _. ℕ; lent = lent; writes = writes; asks = asks; judging = judge; extent = λ x. x }
 
 -- Reading at the k-th place is reading read k, and there is a place for each read from number `first` on.
-pub record PlacesOfReads (s : List ℕ) (first room : ℕ) (places : List ℕ) : Type 0 where
-  pub each : (j : ℕ) → j < length places → answer (readAtReading (getD places j 0)) s ≡ answer (readReading (first + j)) s
-  pub all : (d : Header) → answer header s ≡ ok d → length places ≡ left d first
+pub record PlacesOfReads (s : List ℕ) (first : ℕ) (ps : List ℕ) : Type 0 where
+  pub each : (j : ℕ) → j < length ps → answer (readAtReading (getD ps j 0)) s ≡ answer (readReading (first + j)) s
+  pub all : (d : Header) → answer header s ≡ ok d → length ps ≡ left d first
+
+-- so it is of all places that the call for them answers
+abbrev pub PlacesAreReads : Type 0
+PlacesAreReads = (s : List ℕ) (first room : ℕ) (ps : List ℕ) → answer (placesReading first room) s ≡ ok ps → PlacesOfReads s first ps
