@@ -78,7 +78,7 @@ abbrev pub stepped : ℕ → Step → Outcome Placed
 stepped i (step.Next p b) = passed (record { start = p; behind = b })
 stepped i (step.Bad w) = failed w (i + 1)
 stepped i (step.Short p m) = short (record { start = p; end = m }) (i + 1)
-stepped i (step.NoIndex p m) = short (record { start = p; end = m }) 0
+stepped i (step.ShortIndex p m) = short (record { start = p; end = m }) 0
 
 abbrev pub past : Walked → Outcome Boundary
 past (walked.Behind b) = passed b

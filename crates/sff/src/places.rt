@@ -45,7 +45,7 @@ fn sound_read(s: &[u8], d: Header, b: Boundary) -> Sound
             start: 0,
             behind: b,
         },
-        Step::NoIndex(_, _) => Sound {
+        Step::ShortIndex(_, _) => Sound {
             start: 0,
             behind: b,
         },

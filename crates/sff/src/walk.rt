@@ -27,7 +27,7 @@ pub(crate) enum Step {
     Next(usize, Boundary),
     Bad(Test),
     Short(usize, usize),
-    NoIndex(usize, usize),
+    ShortIndex(usize, usize),
 }
 
 // The boundary behind the reads; or the same refusals, with the read, or 0 for the index.
@@ -68,7 +68,7 @@ pub(crate) fn next_read(s: &[u8], d: Header, b: Boundary) -> Step
     ensures { λ r. ⌜ ((i : ℕ) → stepped i r ≡ run (nextRead d i b) (now (s .entry))) ⌝ }
 {
     match skip_index(s, d, b) {
-        Skipped::Short(start, end) => Step::NoIndex(start, end),
+        Skipped::Short(start, end) => Step::ShortIndex(start, end),
         Skipped::To(c) => {
             let start = c.position;
             match frame(s, d.flows, start) {
@@ -101,7 +101,7 @@ pub(crate) fn walk(s: &[u8], d: Header, n: usize, i: usize, b: Boundary) -> Walk
             Step::Short(start, end) => {
                 return Walked::Short(start, end, i + j + 1);
             }
-            Step::NoIndex(start, end) => {
+            Step::ShortIndex(start, end) => {
                 return Walked::Short(start, end, 0);
             }
             Step::Next(_, behind) => {
