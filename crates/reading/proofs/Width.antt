@@ -44,6 +44,11 @@ module _ (w n p : ℕ) (s : List ℕ) (h : p + w ≤ n) where
   pub le-taken : le w (take n s) p ≡ le w s p
   le-taken = le-in-part w 0 n p s h ∙ ap (le w s) (omega arith)
 
+-- one byte is the same either way
+pub byte-le : (s : List ℕ) (p : ℕ) → be 1 s p ≡ le 1 s p
+unfolding be le
+byte-le s p = refl
+
 -- bytes past the end read as 0
 number-zero : (w : ℕ) (d : ℕ → ℕ) → ((i : ℕ) → d i ≡ 0) → number w d ≡ 0
 number-zero zero d h = refl
