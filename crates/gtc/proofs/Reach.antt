@@ -1,0 +1,126 @@
+-- What the reading calls of GTC need: judging just the extent that it answers, and no other call more.
+-- Assumes nothing.
+use Prim.Native.Nat.{ℕ, zero, suc, _+_, _≤_, _<_, max, min}
+use mathlib.Core.Path.{_≡_, sym, _∙_, ap, subst}
+use mathlib.Core.List.{List}
+use mathlib.Core.Bool.{Bool, true, false, not}
+use native.Mathlib.Omega.{arith}
+use lib.ListN.{length, take, length-take}
+use Rattle.reading.specs.Choice.{pick}
+use Rattle.reading.specs.declared.check.Rule.the-variants.{Other}
+use Rattle.reading.specs.Check.{Check, ok, answer, reach, holds, done, must, _>>=_, _>>_}
+use Rattle.reading.proofs.Cut.{answer-same}
+use Rattle.reading.proofs.Steps.{reach-done, reach-must, reach-need, reach-at}
+use Rattle.reading.proofs.Passed.{bind-ok, done-ok, must-ok, at-ok, ok-inj}
+use Rattle.reading.proofs.Reach.{reach-none, reach-under, reach-must-under}
+use Rattle.reading.proofs.Tests.{span, no}
+use Rattle.gtc.specs.declared.entry.Entry.{Entry}
+use Rattle.gtc.specs.declared.item.ItemData.{ItemData}
+use Rattle.gtc.specs.Table.{Table, tableEnd, headerCheck, table}
+use Rattle.gtc.specs.Entry.{entryPlace, entryOf, entryWith, idField}
+use Rattle.gtc.specs.Item.{listingOf, isListed, itemCheck, itemEnd}
+use Rattle.gtc.specs.Judge.{Extent, newId, idAmong, judgeEntry, judgeEntries, judgeTable, judging}
+use Rattle.gtc.specs.Lookup.{lookupListed, lookupIn, lookingUp}
+use Rattle.gtc.proofs.entry.Laws.{with-found, with-none-needed, found-id, entry-place}
+use Rattle.gtc.proofs.item.Laws.{item-end}
+use Rattle.gtc.proofs.lookup.Laws.{lookup-within}
+
+header-none : (a b c : ℕ) (s : List ℕ) → reach (headerCheck a b c) s ≡ 0
+unfolding headerCheck
+header-none a b c s = search (reach-none, reach-must) depth 12
+
+table-reach : (s : List ℕ) (t : Table) → answer table s ≡ ok t → reach table s ≡ tableEnd (t .count)
+unfolding table
+table-reach s t w =
+    let b = bind-ok _ _ s t w in
+    let c = bind-ok _ _ s t (b .2) in
+    let d = bind-ok _ _ s t (c .2) in
+    let g = done-ok _ t s (d .2) in
+    simp (b .3, c .3, d .3, header-none, reach-need, reach-done, ← g) (omega arith)
+
+-- the checks of entry d as an item
+abbrev checksOf : List ℕ → ℕ → Entry → Check ItemData
+checksOf h n d = itemCheck (listingOf (d .id)) h n d
+
+-- an entry's end is what judging it needs beyond the table, and a listed entry's own checks need no more
+entry-end : (h : List ℕ) (n i : ℕ) (d : Entry) (s : List ℕ) (y : ℕ) → answer (judgeEntry h n i d) s ≡ ok y → (max (d .place + 6) (reach (judgeEntry h n i d) s) ≡ max (d .place + 6) y) × (isListed (listingOf (d .id)) ≡ true → reach (checksOf h n d) s ≤ max (d .place + 6) y)
+unfolding judgeEntry
+entry-end h n i d s y w = go (isListed (listingOf (d .id))) w
+  where
+    listed : Check ℕ
+    listed = must (idField d) (Other newId (not (idAmong h (d .id) i 0))) 8 >> (itemCheck (listingOf (d .id)) h n d >>= (λ q. done (itemEnd q)))
+
+    go : (b : Bool) → answer (pick b listed (done 0)) s ≡ ok y → (max (d .place + 6) (reach (pick b listed (done 0)) s) ≡ max (d .place + 6) y) × (b ≡ true → reach (itemCheck (listingOf (d .id)) h n d) s ≤ max (d .place + 6) y)
+    go true v =
+        let a = bind-ok _ _ s y v in
+        let b = bind-ok (itemCheck (listingOf (d .id)) h n d) _ s y (a .2) in
+        let z : itemEnd (b .0) ≡ y = done-ok _ y s (b .2) in
+        let e = item-end (listingOf (d .id)) h n d s (b .0) (b .1) in
+        (simp (a .3, b .3, reach-must, reach-done) (omega arith), λ _. omega arith)
+    go false v =
+        let z : 0 ≡ y = done-ok 0 y s v in
+        (simp reach-done (omega arith), λ f. absurd (no f))
+
+-- two ends beyond a table are one beyond a larger end
+beyond : (p x e y : ℕ) → p ≤ x → max p e ≡ max p y → max x e ≡ max x y
+beyond p x e y l q = omega arith
+
+larger-of : (x e r : ℕ) → max x (max e r) ≡ max (max x e) r
+larger-of x e r = omega arith
+
+-- the entries of a file that is judged whole end within the extent, and need no more
+each-end : (h : List ℕ) (n m i x : ℕ) (s : List ℕ) (z : ℕ) → tableEnd (i + m) ≤ x → answer (judgeEntries h n m i x) s ≡ ok z → (max x (reach (judgeEntries h n m i x) s) ≡ z) × (x ≤ z) × ((j : ℕ) → i ≤ j → j < i + m → isListed (listingOf (entryOf h (entryPlace j) .id)) ≡ true → reach (checksOf h n (entryOf h (entryPlace j))) s ≤ z)
+unfolding judgeEntries
+each-end h n zero i x s z t w =
+    let e : x ≡ z = done-ok x z s w in
+    (simp (reach-done, e) (omega arith), omega arith, λ j a b. absurd (omega arith))
+each-end h n (suc m) i x s z t w =
+    let d = entryOf h (entryPlace i) in
+    let p : d .place ≡ entryPlace i = entry-place h (entryPlace i) in
+    let a = bind-ok _ (λ y. judgeEntries h n m (i + 1) (max x y)) s z w in
+    let g = each-end h n m (i + 1) (max x (a .0)) s z (omega arith) (a .2) in
+    let f = entry-end h n i d s (a .0) (at-ok (i + 1) (judgeEntry h n i d) s (a .0) (a .1)) in
+    let b = beyond (d .place + 6) x _ (a .0) (omega arith) (f .0) in
+    (simp (a .3, reach-at, larger-of, b) (g .0), omega arith, λ j b c. span (λ (k : ℕ). k < i + suc m → isListed (listingOf (entryOf h (entryPlace k) .id)) ≡ true → reach (checksOf h n (entryOf h (entryPlace k))) s ≤ z) i j b (λ _ v. omega (arith, f .1 v)) (λ b₁ c₁. g .2 j (omega arith) (omega arith)) c)
+
+-- what judging has found in a whole file
+whole : (s : List ℕ) (v : Extent) → answer judging s ≡ ok v → (t : Table) × (answer table s ≡ ok t) × (reach judging s ≡ v .extent) × (tableEnd (t .count) ≤ v .extent) × ((j : ℕ) → j < t .count → isListed (listingOf (entryOf (t .upTo) (entryPlace j) .id)) ≡ true → reach (checksOf (t .upTo) (t .count) (entryOf (t .upTo) (entryPlace j))) s ≤ v .extent)
+unfolding judging judgeTable
+whole s v w =
+    let a = bind-ok table _ s v w in
+    let t = a .0 in
+    let b = bind-ok _ _ s v (a .2) in
+    let z : b .0 ≡ v .extent = ap (λ (x : Extent). x .extent) (done-ok _ v s (b .2)) in
+    let f = table-reach s t (a .1) in
+    let g = each-end (t .upTo) (t .count) (t .count) 0 (tableEnd (t .count)) s (b .0) (omega arith) (b .1) in
+    (t, a .1, simp (a .3, b .3, f, reach-done) (omega arith), omega arith, λ j l u. omega (arith, g .2 j (omega arith) (omega arith) u))
+
+-- the extent is the number of bytes that judging needs
+pub extent : (s : List ℕ) (v : Extent) → answer judging s ≡ ok v → reach judging s ≡ v .extent
+extent s v w = whole s v w .2
+
+pub lookup-under : (k : ℕ) (s : List ℕ) (v : Extent) → answer judging s ≡ ok v → reach (lookingUp k) s ≤ v .extent
+unfolding lookingUp lookupIn lookupListed holds
+lookup-under k s v w =
+    let x = v .extent in
+    let a = whole s v w in
+    reach-under x _ _ s (omega (arith, table-reach s (a .0) (a .1))) (λ t e.
+    let q : a .0 ≡ t = ok-inj (sym (a .1) ∙ e) in
+    subst (λ (t : Table). reach (lookupIn (t .upTo) (t .count) k) s ≤ x) q
+    (reach-under x _ _ s (reach-must-under x _ _ _ s) (λ u l.
+    reach-under x _ _ s (rw (with-none-needed s (a .0 .upTo) (a .0 .count) k) (omega arith)) (λ d f.
+    item-under x (a .0 .upTo) (a .0 .count) k d s f (must-ok _ _ 10 s u l) (a .4)))))
+  where
+    item-under : (x : ℕ) (h : List ℕ) (n k : ℕ) (d : Entry) (s : List ℕ) → answer (entryWith h n k) s ≡ ok d → isListed (listingOf k) ≡ true → ((j : ℕ) → j < n → isListed (listingOf (entryOf h (entryPlace j) .id)) ≡ true → reach (checksOf h n (entryOf h (entryPlace j))) s ≤ x) → reach (itemCheck (listingOf (d .id)) h n d) s ≤ x
+    item-under x h n k d s f l g =
+        let p = with-found s h n k d f in
+        let i : d .id ≡ k = found-id s h n k d f in
+        let m : isListed (listingOf (d .id)) ≡ true = rw i l in
+        subst (λ (d : Entry). reach (checksOf h n d) s ≤ x) (sym (p .1)) (g _ (p .0) (subst (λ (d : Entry). isListed (listingOf (d .id)) ≡ true) (p .1) m))
+
+-- the data that lookup finds lie within the extent
+pub found-under : (k : ℕ) (s : List ℕ) (v : Extent) → answer judging s ≡ ok v → (q : ItemData) → answer (lookingUp k) s ≡ ok q → q .start + q .size ≤ v .extent
+found-under k s v w q e =
+    let f = lookup-within k (take (v .extent) s) q (answer-same (lookingUp k) (v .extent) s (lookup-under k s v w) ∙ e) in
+    let l : length (take (v .extent) s) ≡ min (v .extent) (length s) = length-take (v .extent) s in
+    omega arith

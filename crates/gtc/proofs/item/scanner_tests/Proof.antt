@@ -1,0 +1,52 @@
+use borrow.Author.Needs.{needs}
+use Rattle.gtc.proofs.item.scanner_tests.Statement.{statement}
+use Rattle.gtc.proofs.item.scanner_tests.Tie as tie
+use native.Mathlib.Omega.{arith}
+use mathlib.Core.Path.{sym, _∙_, ap}
+use Rattle.reading.specs.Check.{passed}
+use Rattle.reading.proofs.Steps.{run-done}
+use Rattle.reading.proofs.Passed.{bind-short, bind-passed}
+use Rattle.gtc.specs.Item.{shapeCheck, end}
+
+cast-p : tie.Need-cast-p
+cast-p c = search needs
+
+scanner-end-requires : tie.Need-scanner-end-requires
+scanner-end-requires c κs = search needs
+
+enum-known-a : tie.Need-enum-known-a
+enum-known-a c = search needs
+
+enum-known-e : tie.Need-enum-known-e
+enum-known-e c = search needs
+
+up-to-requires : tie.Need-up-to-requires
+up-to-requires c κs =
+    let b = c .before .before .before .scanner-end .ensures .1 _ (ap end (c .before .e .given .1)) in
+    omega arith
+
+returns : tie.Need-returns
+unfolding shapeCheck
+returns c h n =
+    let k = c .before .before .before in
+    let s = k .before .before .before .args .s .now in
+    bind-short _ _ s _ 0 (sym (k .scanner-end .ensures .0) ∙ ap end (c .before .a .given .1))
+
+returns-2 : tie.Need-returns-2
+unfolding shapeCheck
+returns-2 c h n =
+    let k = c .before .before .before .before in
+    let s = k .before .before .before .args .s .now in
+    ap passed (c .up-to .ensures) ∙ sym (run-done _ s) ∙ bind-passed _ _ s _ (sym (k .scanner-end .ensures .0) ∙ ap end (c .before .before .e .given .1))
+
+pub scanner-tests-spec : {M : Type 1} → statement M
+scanner-tests-spec =
+    tie.close
+    (tie.spec
+    cast-p
+    scanner-end-requires
+    enum-known-a
+    enum-known-e
+    up-to-requires
+    returns
+    returns-2)

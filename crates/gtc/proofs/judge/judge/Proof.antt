@@ -1,0 +1,78 @@
+use borrow.Author.Needs.{needs}
+use Rattle.gtc.proofs.judge.judge.Statement.{statement}
+use Rattle.gtc.proofs.judge.judge.Tie as tie
+use mathlib.Core.Path.{_∙_}
+use native.Mathlib.Omega.{arith}
+use lib.ListN.{length-take}
+use Rattle.gtc.specs.Judge.{judgeTable, judging}
+use Rattle.gtc.proofs.table.Laws.{table-at, count-good, after-bad, after-short, after-good}
+
+read-table-requires : tie.Need-read-table-requires
+read-table-requires c κs = search needs
+
+enum-known-t : tie.Need-enum-known-t
+enum-known-t c = search needs
+
+enum-told : tie.Need-enum-told
+enum-told c = search needs
+
+enum-known-count : tie.Need-enum-known-count
+enum-known-count c = search needs
+
+cast-n : tie.Need-cast-n
+cast-n c = search needs
+
+mul-end : tie.Need-mul-end
+mul-end c = search needs
+
+add-end : tie.Need-add-end
+add-end c = search needs
+
+slice-aggregate-judge-table : tie.Need-slice-aggregate-judge-table
+slice-aggregate-judge-table c =
+    let t = c .before .before .before .before in
+    let s = t .before .before .args .s .now in
+    let w = table-at s _ (count-good s _ (t .read-table .ensures) _ (c .before .before .count .given .1)) in
+    simp length-take (omega arith)
+
+judge-table-requires : tie.Need-judge-table-requires
+judge-table-requires c κs =
+    let t = c .before .before .before .before in
+    let s = t .before .before .args .s .now in
+    let w = table-at s _ (count-good s _ (t .read-table .ensures) _ (c .before .before .count .given .1)) in
+    simp length-take (omega arith)
+
+returns : tie.Need-returns
+unfolding judging
+returns c =
+    let t = c .before .before .before in
+    after-bad (t .before .before .args .s .now) _ (t .read-table .ensures) (λ t. judgeTable (t .upTo) (t .count)) _ (c .before .t .given .1)
+
+returns-2 : tie.Need-returns-2
+unfolding judging
+returns-2 c =
+    let t = c .before .before in
+    after-short (t .before .before .args .s .now) _ (t .read-table .ensures) (λ t. judgeTable (t .upTo) (t .count)) _ _ (c .enum-told .given .1)
+
+returns-3 : tie.Need-returns-3
+unfolding judging
+returns-3 c =
+    let t = c .before .before .before .before .before in
+    c .judge-table .ensures ∙ after-good (t .before .before .args .s .now) _ (t .read-table .ensures) (λ t. judgeTable (t .upTo) (t .count)) _ (c .before .before .before .count .given .1)
+
+pub judge-spec : {M : Type 1} → statement M
+judge-spec =
+    tie.close
+    (tie.spec
+    read-table-requires
+    enum-known-t
+    enum-told
+    enum-known-count
+    cast-n
+    mul-end
+    add-end
+    slice-aggregate-judge-table
+    judge-table-requires
+    returns
+    returns-2
+    returns-3)

@@ -1,0 +1,49 @@
+use borrow.Author.Needs.{needs}
+use Rattle.gtc.proofs.lookup.data_part.Statement.{statement}
+use Rattle.gtc.proofs.lookup.data_part.Tie as tie
+use mathlib.Core.Path.{sym, _∙_, ap}
+use Rattle.reading.specs.Part.{shown}
+use Rattle.reading.proofs.Parts.{part-there}
+use Rattle.gtc.specs.Lookup.{found}
+use Rattle.gtc.proofs.lookup.Laws.{lookup-within}
+use native.Mathlib.Omega.{arith}
+
+lookup-requires : tie.Need-lookup-requires
+lookup-requires c κs = search needs
+
+enum-told : tie.Need-enum-told
+enum-told c = search needs
+
+part-requires : tie.Need-part-requires
+part-requires c κs = search needs
+
+enum-known-q : tie.Need-enum-known-q
+enum-known-q c = search needs
+
+part-requires-2 : tie.Need-part-requires-2
+part-requires-2 c κs = search needs
+
+returns : tie.Need-returns
+returns c =
+    let o = c .before .before .before in
+    c .part .ensures ∙ part-there (shown (o .before .before .args .s)) 0 0 (omega arith) ∙ rw (← o .lookup .ensures, c .before .enum-told .given .1)
+
+returns-2 : tie.Need-returns-2
+returns-2 c =
+    let o = c .before .before .before .before in
+    let g = o .before .before .args in
+    let a = c .before .before in
+    let w = lookup-within (g .id) (g .s .now) _ (sym (o .lookup .ensures) ∙ ap found (a .q .given .1)) in
+    c .part2 .ensures ∙ part-there (shown (g .s)) _ _ w ∙ rw (← o .lookup .ensures, a .q .given .1)
+
+pub data-part-spec : {M : Type 1} → statement M
+data-part-spec =
+    tie.close
+    (tie.spec
+    lookup-requires
+    enum-told
+    part-requires
+    enum-known-q
+    part-requires-2
+    returns
+    returns-2)

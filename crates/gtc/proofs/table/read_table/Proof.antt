@@ -1,0 +1,80 @@
+use borrow.Author.Needs.{needs}
+use Rattle.gtc.proofs.table.read_table.Statement.{statement}
+use Rattle.gtc.proofs.table.read_table.Tie as tie
+use native.Mathlib.Omega.{arith}
+use lib.ListN.{length-take}
+use Rattle.reading.proofs.Width.{byte-le}
+use Rattle.gtc.proofs.table.Laws.{table-short, table-header, table-cut, table-good}
+
+returns : tie.Need-returns
+returns c = table-short _ (c .if1 .taken)
+
+slice-aggregate-h : tie.Need-slice-aggregate-h
+slice-aggregate-h c = simp length-take (omega arith)
+
+mark-of-requires : tie.Need-mark-of-requires
+mark-of-requires c κs = search needs
+
+byte-requires : tie.Need-byte-requires
+byte-requires c κs = search needs
+
+le32-requires : tie.Need-le32-requires
+le32-requires c κs = search needs
+
+header-tests-requires : tie.Need-header-tests-requires
+header-tests-requires c κs = search needs
+
+enum-known-t : tie.Need-enum-known-t
+enum-known-t c = search needs
+
+returns-2 : tie.Need-returns-2
+returns-2 c =
+    let t = c .before .before .before in
+    let a = t .before in
+    let s = a .before .before .before .before .before .before .args .s .now in
+    table-header s (a .before .before .before .before .if1 .left) _ (rw (← a .before .before .mark-of .ensures, ← byte-le, ← a .before .byte .ensures, ← a .le32 .ensures, ← t .header-tests .ensures s, c .before .t .given .1))
+
+enum-told : tie.Need-enum-told
+enum-told c = search needs
+
+cast-end : tie.Need-cast-end
+cast-end c = search needs
+
+mul-end : tie.Need-mul-end
+mul-end c = search needs
+
+add-end : tie.Need-add-end
+add-end c = search needs
+
+returns-3 : tie.Need-returns-3
+returns-3 c =
+    let t = c .before .before .before in
+    let a = t .before in
+    let s = a .before .before .before .before .before .before .args .s .now in
+    rw (a .le32 .ensures) (table-cut s (a .before .before .before .before .if1 .left) (rw (← a .before .before .mark-of .ensures, ← byte-le, ← a .before .byte .ensures, ← a .le32 .ensures, ← t .header-tests .ensures s, c .before .enum-told .given .1)) (rw (← a .le32 .ensures) (c .if2 .taken)))
+
+returns-4 : tie.Need-returns-4
+returns-4 c =
+    let t = c .before .before .before in
+    let a = t .before in
+    let s = a .before .before .before .before .before .before .args .s .now in
+    rw (a .le32 .ensures) (table-good s (a .before .before .before .before .if1 .left) (rw (← a .before .before .mark-of .ensures, ← byte-le, ← a .before .byte .ensures, ← a .le32 .ensures, ← t .header-tests .ensures s, c .before .enum-told .given .1)) (rw (← a .le32 .ensures) (c .if2 .left)))
+
+pub read-table-spec : {M : Type 1} → statement M
+read-table-spec =
+    tie.close
+    (tie.spec
+    returns
+    slice-aggregate-h
+    mark-of-requires
+    byte-requires
+    le32-requires
+    header-tests-requires
+    enum-known-t
+    returns-2
+    enum-told
+    cast-end
+    mul-end
+    add-end
+    returns-3
+    returns-4)

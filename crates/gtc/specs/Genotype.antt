@@ -1,0 +1,40 @@
+-- GTC: what a genotype code means (Table 4).
+-- Assumes nothing.
+use Prim.Native.Nat.{ℕ, zero, suc, _+_, _-_, _*_, _/_}
+use lib.Dec.{leb, eqb}
+use Rattle.reading.specs.Choice.{pick}
+use Rattle.reading.specs.Check.{Check, Answer, ok, refused, done, provided, _>>=_, _>>_}
+use Rattle.gtc.specs.declared.genotype.Genotype.{Genotype}
+use Rattle.gtc.specs.declared.genotype.Genotype.the-variants.{NoCall, Null, Alleles}
+use Rattle.gtc.specs.declared.genotype.Decoded.{Decoded}
+use Rattle.gtc.specs.declared.genotype.Decoded.the-variants.{Is, Refused}
+
+-- the code of p letters of which b are B, for p from 3 to 8
+abbrev pub codeOf : ℕ → ℕ → ℕ
+codeOf p b = p * (p + 1) / 2 + 1 + b
+
+-- the letters of a code among those of p letters, of p + 1, and so on, n lengths in all
+unfoldable pub lettersFrom : ℕ → ℕ → ℕ → Genotype
+lettersFrom code p zero = Null
+lettersFrom code p (suc n) = pick (leb code (codeOf p p)) (Alleles p (code - codeOf p 0)) (lettersFrom code (p + 1) n)
+
+-- 0 NC, 1 to 3 AA AB BB, 4 NULL, 5 A, 6 B, then 3 to 8 letters
+unfoldable pub meaning : ℕ → Genotype
+unfolding lettersFrom
+meaning code =
+    pick (eqb code 0) NoCall
+    (pick (leb code 3) (Alleles 2 (code - 1))
+    (pick (eqb code 4) Null
+    (pick (leb code 6) (Alleles 1 (code - 5))
+    (lettersFrom code 3 6))))
+
+-- over 45 is 11
+unfoldable pub decoding : ℕ → Check Genotype
+decoding code = do
+  provided (leb code 45) 11
+  done (meaning code)
+
+-- the answer of document 01 that each case stands for
+abbrev pub decoded : Decoded → Answer Genotype
+decoded (Is g) = ok g
+decoded (Refused n) = refused n 0

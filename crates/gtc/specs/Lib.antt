@@ -1,0 +1,9 @@
+pub mod Table
+pub mod Entry
+pub mod Item
+pub mod Judge
+pub mod Lookup
+pub mod Genotype
+pub mod Snp
+pub mod Transformation
+pub mod Normalise

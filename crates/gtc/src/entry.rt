@@ -1,0 +1,93 @@
+// An entry of the table of contents, and the one entry with an id.
+use reading::check::Field;
+use reading::check::Rule;
+use reading::check::Test;
+use reading::number::le16;
+use reading::number::le32;
+ghost use mathlib.Core.Path.{_≡_};
+ghost use mathlib.Core.List.{List};
+ghost use Prim.Native.Nat.{ℕ, _+_, _-_, _*_, _≤_, _<_};
+ghost use lib.ListN.{length};
+ghost use Rattle.reading.specs.Check.{run};
+ghost use Rattle.gtc.specs.Table.{tableEnd};
+ghost use Rattle.gtc.specs.Entry.{entryPlace, entryOf, hasId, firstId, failing, entryWith, entryFound};
+
+// An entry with its place; the signed offset as its unsigned number.
+pub(crate) struct Entry {
+    pub place: usize,
+    pub id: u16,
+    pub offset: u32,
+}
+
+// The entry with an id, or the test that fails.
+pub(crate) enum EntryFound {
+    At(Entry),
+    Bad(Test),
+}
+
+// Entry i, counted from 0.
+pub(crate) fn entry_at(h: &[u8], i: usize) -> Entry
+    requires { ⌜ tableEnd (i + 1) ≤ length (now h) ⌝ }
+    ensures { λ r. ⌜ (r ≡ entryOf (now (h .entry)) (entryPlace i)) × (r .place ≡ entryPlace i) ⌝ }
+{
+    let p = 8 + 6 * i;
+    Entry {
+        place: p,
+        id: le16(h, p),
+        offset: le32(h, p + 2),
+    }
+}
+
+// Entry i has this id.
+pub(crate) fn has_id(h: &[u8], id: u16, i: usize) -> bool
+    requires { ⌜ tableEnd (i + 1) ≤ length (now h) ⌝ }
+    ensures { λ r. ⌜ r ≡ hasId (now (h .entry)) id i ⌝ }
+{
+    le16(h, 8 + 6 * i) == id
+}
+
+fn first_id(h: &[u8], id: u16, from: usize, n: usize) -> usize
+    requires { ⌜ (tableEnd n ≤ length (now h)) × (from ≤ n) ⌝ }
+    ensures { λ r. ⌜ (r ≡ firstId (now (h .entry)) id (n - from) from) × (r ≤ n) ⌝ }
+{
+    let mut i = from;
+    while i < n {
+        if has_id(h, id, i) {
+            return i;
+        }
+        i += 1;
+    }
+    i
+}
+
+// A test of no field of the file, which fails.
+fn failing(number: u8) -> Test
+    ensures { λ r. ⌜ r ≡ failing number ⌝ }
+{
+    Test {
+        field: Field {
+            place: 0,
+            width: 0,
+            sign: false,
+            value: 0,
+        },
+        rule: Rule::Other(0, false),
+        number,
+    }
+}
+
+// The entry with this id in a table of n entries.
+pub(crate) fn entry_with(h: &[u8], n: usize, id: u16) -> EntryFound
+    requires { ⌜ tableEnd n ≤ length (now h) ⌝ }
+    ensures { λ r. ⌜ ((l : List ℕ) → entryFound r ≡ run (entryWith (now (h .entry)) n id) l) ⌝ }
+{
+    let i = first_id(h, id, 0, n);
+    if n <= i {
+        return EntryFound::Bad(failing(7));
+    }
+    let j = first_id(h, id, i + 1, n);
+    if j != n {
+        return EntryFound::Bad(failing(8));
+    }
+    EntryFound::At(entry_at(h, i))
+}

@@ -1,0 +1,78 @@
+// What a genotype code means.
+ghost use mathlib.Core.Path.{_≡_};
+ghost use mathlib.Core.List.{List};
+ghost use Prim.Native.Nat.{ℕ, _≤_};
+ghost use Rattle.reading.specs.Check.{answer};
+ghost use Rattle.gtc.specs.declared.genotype.Genotype.the-variants.{Alleles};
+ghost use Rattle.gtc.specs.Genotype.{lettersFrom, meaning, decoding, decoded};
+
+// A genotype: not called (NC), null, or so many letters of which so many are B, the others A.
+pub enum Genotype {
+    NoCall,
+    Null,
+    Alleles { ploidy: u8, b_alleles: u8 },
+}
+
+// What a code means, or the refusal.
+pub enum Decoded {
+    Is(Genotype),
+    Refused(u8),
+}
+
+// The letters of a code from 7 to 45: three to eight of them.
+fn letters_of(code: u8) -> Genotype
+    requires { ⌜ (7 ≤ code) × (code ≤ 45) ⌝ }
+    ensures { λ r. ⌜ r ≡ lettersFrom code 3 6 ⌝ }
+{
+    if code <= 10 {
+        return letters(3, code - 7);
+    }
+    if code <= 15 {
+        return letters(4, code - 11);
+    }
+    if code <= 21 {
+        return letters(5, code - 16);
+    }
+    if code <= 28 {
+        return letters(6, code - 22);
+    }
+    if code <= 36 {
+        return letters(7, code - 29);
+    }
+    letters(8, code - 37)
+}
+
+fn letters(ploidy: u8, b_alleles: u8) -> Genotype
+    ensures { λ r. ⌜ r ≡ Alleles ploidy «b_alleles» ⌝ }
+{
+    Genotype::Alleles { ploidy, b_alleles }
+}
+
+pub(crate) fn meaning_of(code: u8) -> Genotype
+    requires { ⌜ code ≤ 45 ⌝ }
+    ensures { λ r. ⌜ r ≡ meaning code ⌝ }
+{
+    if code == 0 {
+        return Genotype::NoCall;
+    }
+    if code <= 3 {
+        return letters(2, code - 1);
+    }
+    if code == 4 {
+        return Genotype::Null;
+    }
+    if code <= 6 {
+        return letters(1, code - 5);
+    }
+    letters_of(code)
+}
+
+// The genotype of a code.
+pub fn genotype_of(code: u8) -> Decoded
+    ensures { λ r. ⌜ ((l : List ℕ) → decoded r ≡ answer (decoding code) l) ⌝ }
+{
+    if 45 < code {
+        return Decoded::Refused(11);
+    }
+    Decoded::Is(meaning_of(code))
+}

@@ -1,0 +1,73 @@
+// Lookup of an id.
+use crate::entry::EntryFound;
+use crate::entry::entry_with;
+use crate::item::Item;
+use crate::item::ItemData;
+use crate::item::is_listed;
+use crate::item::item_tests;
+use crate::table::TableRead;
+use crate::table::read_table;
+use reading::part::part;
+ghost use mathlib.Core.Path.{_≡_};
+ghost use Prim.Native.Nat.{_≤_};
+ghost use lib.ListN.{length};
+ghost use Rattle.reading.specs.Check.{answer, mapAnswer};
+ghost use Rattle.reading.specs.Part.{shown, handedBack};
+ghost use Rattle.gtc.specs.Table.{tableEnd};
+ghost use Rattle.gtc.specs.Lookup.{lookupListed, lookupIn, lookingUp, found, dataSpan};
+
+// What lookup finds, or the refusal.
+pub enum Found {
+    Data(ItemData),
+    Refused(u8),
+}
+
+fn lookup_listed(s: &[u8], h: &[u8], n: usize, id: u16) -> Found
+    requires { ⌜ tableEnd n ≤ length (now h) ⌝ }
+    ensures { λ r. ⌜ found r ≡ answer (lookupListed (now (h .entry)) n id) (now (s .entry)) ⌝ }
+{
+    match entry_with(h, n, id) {
+        EntryFound::Bad(t) => Found::Refused(t.number),
+        EntryFound::At(d) => match item_tests(s, h, n, d) {
+            Item::Bad(t) => Found::Refused(t.number),
+            Item::Short(_, _) => Found::Refused(1),
+            Item::At(q) => Found::Data(q),
+        },
+    }
+}
+
+fn lookup_in(s: &[u8], h: &[u8], n: usize, id: u16) -> Found
+    requires { ⌜ tableEnd n ≤ length (now h) ⌝ }
+    ensures { λ r. ⌜ found r ≡ answer (lookupIn (now (h .entry)) n id) (now (s .entry)) ⌝ }
+{
+    let listed = is_listed(id);
+    if listed {
+        return lookup_listed(s, h, n, id);
+    }
+    Found::Refused(10)
+}
+
+// The item with this id.
+pub fn lookup(s: &[u8], id: u16) -> Found
+    ensures { λ r. ⌜ found r ≡ answer (lookingUp id) (now (s .entry)) ⌝ }
+{
+    match read_table(s) {
+        TableRead::Bad(t) => Found::Refused(t.number),
+        TableRead::Short(_, _) => Found::Refused(1),
+        TableRead::Good(count) => {
+            let n = count as usize;
+            let end = 8 + 6 * n;
+            lookup_in(s, &s[..end], n, id)
+        }
+    }
+}
+
+// The data of an id, as a part of the caller's bytes; the empty part at their start where lookup refuses.
+pub fn data_part(s: &[u8], id: u16) -> &[u8]
+    ensures { λ r. ⌜ shown r ≡ handedBack (shown (s .entry)) (mapAnswer dataSpan (answer (lookingUp id) (now (s .entry)))) ⌝ }
+{
+    match lookup(s, id) {
+        Found::Refused(_) => part(s, 0, 0),
+        Found::Data(q) => part(s, q.start, q.size),
+    }
+}
