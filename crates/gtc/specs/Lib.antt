@@ -5,5 +5,6 @@ pub mod Judge
 pub mod Lookup
 pub mod Genotype
 pub mod Snp
+pub mod Snps
 pub mod Transformation
 pub mod Normalise

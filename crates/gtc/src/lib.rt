@@ -6,5 +6,6 @@ pub mod judge;
 pub mod lookup;
 pub mod normalise;
 pub mod snp;
+pub mod snps;
 pub mod table;
 pub mod transformation;

@@ -10,9 +10,9 @@ use Rattle.abif.specs.Judge.{judging}
 use Rattle.abif.proofs.Reach as Reach
 use Rattle.abif.proofs.lookup.Laws.{found-checked}
 use Rattle.abif.proofs.text.Laws.{text-fits}
-use Rattle.promises.specs.Demand3.{Demand3}
+use Rattle.promises.specs.Demand3.{Holds}
 use Rattle.promises.specs.Abif.{Call, judge, openFile, lookup, element, text, entry, wholeNumbers, Answered, checks, span, abif}
-use Rattle.promises.proofs.Demand3.{demand3}
+use Rattle.promises.proofs.Holds.{holds}
 
 fits : (c : Call) (s : List ℕ) (v : Answered c) → answer (checks c) s ≡ ok v → span c v .start + span c v .size ≤ length s
 fits judge s v e = omega arith
@@ -32,5 +32,5 @@ under (text a b) s x w = Reach.text-under a b s x w
 under (entry i) s x w = Reach.entry-reading-under i s x w
 under (wholeNumbers a b i out) s x w = Reach.numbers-under a b i (length out) s x w
 
-pub abif-demand3 : Demand3 abif
-abif-demand3 = demand3 abif (record { fits = fits; extent = Reach.extent; under = λ c s x w _. under c s x w })
+pub abif-holds : Holds abif
+abif-holds = holds abif (record { fits = fits; extent = Reach.extent; under = λ c s x w _. under c s x w })

@@ -1,54 +1,11 @@
--- Demand 3 for every format, from what its calls need.
+-- Demand 3, whole.
 -- Assumes nothing.
-use Prim.Native.Nat.{ℕ, _+_, _≤_, _<_, min}
-use mathlib.Core.Path.{_≡_, refl, sym, _∙_, ap, subst}
-use mathlib.Core.Logic.{_⊎_, inl, inr}
-use mathlib.Core.List.{List}
-use native.Mathlib.Omega.{arith}
-use lib.ListN.{length, take, length-take}
-use Rattle.reading.specs.Check.{Answer, ok, refused, mapAnswer, answer, reach}
-use Rattle.reading.specs.Demand.{Refused1, refused1}
-use Rattle.reading.specs.Part.{Part, cutTo, Span, handedBack}
-use Rattle.reading.specs.Lent.{filled}
-use Rattle.reading.proofs.Cut.{answer-same, cuts, steady}
-use Rattle.reading.proofs.Parts.{handed-kept}
-use Rattle.promises.specs.Demand3.{Format, Seen, seen, CutShort, Demand3}
+use Rattle.promises.specs.Demand3.{ABIF, SFF, GTC, Demand3}
+use Rattle.promises.proofs.Abif.{abif-holds}
+use Rattle.promises.proofs.Sff.{sff-holds}
+use Rattle.promises.proofs.Gtc.{gtc-holds}
 
--- what is shown of a format: the parts handed back lie within the file, judging needs just the extent, and no other call needs more
-pub record Needs (f : Format) : Type 0 where
-  pub fits : (c : f .Call) (s : List ℕ) (v : f .Value c) → answer (f .checks c) s ≡ ok v → f .span c v .start + f .span c v .size ≤ length s
-  pub extent : (s : List ℕ) (v : f .Value (f .judging)) → answer (f .checks (f .judging)) s ≡ ok v → reach (f .checks (f .judging)) s ≡ f .extent v
-  pub under : (c : f .Call) (s : List ℕ) (v : f .Value (f .judging)) → answer (f .checks (f .judging)) s ≡ ok v → f .asks c s → reach (f .checks c) s ≤ f .extent v
-
-module _ (f : Format) (k : Needs f) where
-  -- what a call shows of a file, from its answer
-  abbrev shows : (c : f .Call) → Part → Answer (f .Value c) → Seen f c
-  shows c file r = record { answers = r; part = handedBack file (mapAnswer (f .span c) r); list = filled (mapAnswer (f .writes c) r) (f .lent c) }
-
-  part-same : (c : f .Call) (file : Part) (n : ℕ) (r : Answer (f .Value c)) → answer (f .checks c) (take n (file .bytes)) ≡ r → handedBack (cutTo n file) (mapAnswer (f .span c) r) ≡ handedBack file (mapAnswer (f .span c) r)
-  part-same c file n (ok v) e = handed-kept file n (ok (f .span c v)) (λ q h.
-      let l : length (take n (file .bytes)) ≡ min n (length (file .bytes)) = length-take n (file .bytes) in
-      let w = k .fits c (take n (file .bytes)) v e in
-      let z : f .span c v ≡ q = cc in
-      subst (λ (x : Span). x .start + x .size ≤ n) z (omega arith))
-  part-same c file n (refused m d) e = handed-kept file n (refused m d) (λ q h. let z : _≡_ {A = ℕ} 0 1 = cc in absurd (omega arith))
-
-  seen-same : (c : f .Call) (file : Part) (n : ℕ) → answer (f .checks c) (take n (file .bytes)) ≡ answer (f .checks c) (file .bytes) → seen f c (cutTo n file) ≡ seen f c file
-  seen-same c file n e =
-      ap (shows c (cutTo n file)) e ∙ ap (λ (p : Part). record { answers = answer (f .checks c) (file .bytes); part = p; list = filled (mapAnswer (f .writes c) (answer (f .checks c) (file .bytes))) (f .lent c) }) (part-same c file n (answer (f .checks c) (file .bytes)) e)
-
-  short : (c : f .Call) (file : Part) (r : Answer (f .Value c)) → Refused1 r → answer (f .checks c) (file .bytes) ≡ r → CutShort f c file
-  short c file r (refused1 e) h = (e, ap (shows c file) h)
-
-  pub demand3 : Demand3 f
-  demand3 =
-      record {
-        cut = λ c file n. either c file n (steady (f .checks c) (file .bytes) n);
-        within = λ file v w. subst (λ (x : ℕ). x ≤ length (file .bytes)) (k .extent (file .bytes) v w) (cuts (f .checks (f .judging)) (file .bytes) v w .within);
-        below = λ file v w n h. short (f .judging) (cutTo n file) _ (cuts (f .checks (f .judging)) (file .bytes) v w .cut n (subst (λ (x : ℕ). n < x) (sym (k .extent (file .bytes) v w)) h)) refl;
-        from = λ file v w n h c a. seen-same c file n (answer-same (f .checks c) n (file .bytes) (omega (arith, k .under c (file .bytes) v w a)));
-      }
-    where
-      either : (c : f .Call) (file : Part) (n : ℕ) → Refused1 (answer (f .checks c) (take n (file .bytes))) ⊎ (answer (f .checks c) (take n (file .bytes)) ≡ answer (f .checks c) (file .bytes)) → CutShort f c (cutTo n file) ⊎ (seen f c (cutTo n file) ≡ seen f c file)
-      either c file n (inl q) = inl (short c (cutTo n file) _ q refl)
-      either c file n (inr q) = inr (seen-same c file n q)
+pub demand3 : Demand3
+demand3 ABIF = abif-holds
+demand3 SFF = sff-holds
+demand3 GTC = gtc-holds

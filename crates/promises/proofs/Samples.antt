@@ -1,7 +1,7 @@
 -- The bench samples, computed from the definitions.
 -- Assumes nothing.
 use mathlib.Core.Path.{refl}
-use Rattle.reading.specs.Number.{be, signed}
+use Rattle.reading.specs.Number.{be, le, signed}
 use Rattle.reading.specs.Check.{answer}
 use Rattle.abif.specs.Entry.{entryOf, typeOf, listedCheck, rawCheck, sizesCheck, placeCheck, entryCheck}
 use Rattle.abif.specs.Directory.{headerCheck, boundsCheck, directory, opening}
@@ -16,11 +16,18 @@ use Rattle.sff.specs.Judge as Judge
 use Rattle.sff.specs.Clips.{clipsCheck}
 use Rattle.sff.specs.Steps.{sumsWithin, stepsCheck}
 use Rattle.sff.specs.Lookup.{readOf, readContents, readFrom, readIn, readReading, readAtReading}
-use Rattle.promises.specs.Samples.{twoShorts, threeShorts, monthThirteen, sffHeader, threeBases, table, behindTheExtent, AllHold}
+use Rattle.gtc.specs.Table as Table
+use Rattle.gtc.specs.Entry as Entry
+use Rattle.gtc.specs.Item.{listingIn, listingOf, arrayCount, elementsOf, snpCheck, shapeCheck, shapedCheck, itemCheck}
+use Rattle.gtc.specs.Judge as Items
+use Rattle.gtc.specs.Lookup as Ids
+use Rattle.gtc.specs.Genotype.{lettersFrom, meaning, decoding}
+use Rattle.gtc.specs.Snp.{callArrays, intensityArrays, snpArrays, snpBytes, isBaseCall, snpAt, snpOf, snpReading}
+use Rattle.promises.specs.Samples.{twoShorts, threeShorts, monthThirteen, sffHeader, threeBases, noEntries, threeSnps, threeCodes, table, behindTheExtent, AllHold}
 
 pub samples : AllHold table
-unfolding answer be signed entryOf headerCheck boundsCheck directory opening tagAmong typeOf listedCheck rawCheck sizesCheck placeCheck entryCheck judgeEntry judgeEntries judging firstTag dataOf itemOf lookupIn lookingUp wholeAt dateAt timeAt valueAt elementOf elementReading padding padded Header.headerOf Header.markCheck Header.lengthCheck Header.indexCheck Header.header readHeaderOf present framing skipIndex nextRead walk walkPast beforeRead Judge.ending Judge.judgingReads Judge.judging clipsCheck sumsWithin stepsCheck readOf readContents readFrom readIn readReading twoShorts threeShorts monthThirteen sffHeader threeBases
-samples = (refl, (refl, (refl, (refl, (refl, (refl, (refl, (refl, (refl, (refl, (refl, (refl, (refl, (refl, tt))))))))))))))
+unfolding answer be le signed entryOf headerCheck boundsCheck directory opening tagAmong typeOf listedCheck rawCheck sizesCheck placeCheck entryCheck judgeEntry judgeEntries judging firstTag dataOf itemOf lookupIn lookingUp wholeAt dateAt timeAt valueAt elementOf elementReading padding padded Header.headerOf Header.markCheck Header.lengthCheck Header.indexCheck Header.header readHeaderOf present framing skipIndex nextRead walk walkPast beforeRead Judge.ending Judge.judgingReads Judge.judging clipsCheck sumsWithin stepsCheck readOf readContents readFrom readIn readReading Table.headerCheck Table.table Entry.entryOf Entry.hasId Entry.firstId Entry.entryWith listingIn listingOf arrayCount elementsOf snpCheck shapeCheck shapedCheck itemCheck Items.idAmong Items.judgeEntry Items.judgeEntries Items.unjudgedAmong Items.judgeTable Items.judging Ids.lookupListed Ids.lookupIn Ids.lookingUp lettersFrom meaning decoding callArrays intensityArrays snpArrays snpBytes isBaseCall snpAt snpOf snpReading twoShorts threeShorts monthThirteen sffHeader threeBases noEntries threeSnps threeCodes
+samples = (refl, (refl, (refl, (refl, (refl, (refl, (refl, (refl, (refl, (refl, (refl, (refl, (refl, (refl, (refl, (refl, (refl, (refl, (refl, (refl, tt))))))))))))))))))))
 
 pub behind-the-extent : AllHold behindTheExtent
 unfolding answer be padding padded Header.headerOf Header.markCheck Header.lengthCheck Header.indexCheck Header.header readHeaderOf present framing skipIndex nextRead walk Judge.ending Judge.judgingReads Judge.judging clipsCheck sumsWithin stepsCheck readOf readContents readFrom readAtReading sffHeader threeBases

@@ -10,9 +10,9 @@ use Rattle.sff.specs.Judge.{judging}
 use Rattle.sff.proofs.Reach as Reach
 use Rattle.sff.proofs.lookup.Laws.{number-fits, at-fits}
 use Rattle.sff.proofs.places.Numbered.{listed-ok, listed-all, place-is-read}
-use Rattle.promises.specs.Demand3.{Demand3}
+use Rattle.promises.specs.Demand3.{Holds}
 use Rattle.promises.specs.Sff.{Call, judge, fields, read, readAt, places, flowOfBase, Answered, checks, span, asks, sff, PlacesAreReads}
-use Rattle.promises.proofs.Demand3.{demand3}
+use Rattle.promises.proofs.Holds.{holds}
 
 fits : (c : Call) (s : List ℕ) (v : Answered c) → answer (checks c) s ≡ ok v → span c v .start + span c v .size ≤ length s
 fits judge s v e = omega arith
@@ -30,8 +30,8 @@ under (readAt p q) s x w a = Reach.at-under p s x w a
 under (places i out) s x w a = Reach.places-under i (length out) s x w
 under (flowOfBase k i) s x w a = Reach.flow-under k i s x w
 
-pub sff-demand3 : Demand3 sff
-sff-demand3 = demand3 sff (record { fits = fits; extent = Reach.extent; under = under })
+pub sff-holds : Holds sff
+sff-holds = holds sff (record { fits = fits; extent = Reach.extent; under = under })
 
 pub places-are-reads : PlacesAreReads
 places-are-reads s first room ps w =

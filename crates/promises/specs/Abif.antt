@@ -15,7 +15,7 @@ use Rattle.abif.specs.Element.{Value, elementReading}
 use Rattle.abif.specs.Numbers.{numbersReading}
 use Rattle.abif.specs.Text.{textReading}
 use Rattle.abif.specs.Listing.{entryReading}
-use Rattle.promises.specs.Demand3.{Format}
+use Rattle.promises.specs.Format.{Format}
 
 -- a tag is its name and its number, each by its 32 bits
 pub data Call : Type 0 where

@@ -1,32 +1,18 @@
--- Demand 3: cutting a file never changes an answer except to refusal 1, and a whole file stays whole down to its extent.
+-- Demand 3, whole: cutting a file never changes an answer except to refusal 1, and a whole file stays whole down to its extent. The calls it speaks of are all reading
+-- calls of ABIF, SFF and GTC: `Call` in Abif, Sff and Gtc lists them.
 -- Assumes nothing.
 use Prim.Native.Nat.{ℕ, _≤_, _<_}
 use mathlib.Core.Path.{_≡_}
 use mathlib.Core.Logic.{_⊎_}
 use mathlib.Core.List.{List}
 use lib.ListN.{length}
-use Rattle.reading.specs.Check.{Check, Answer, ok, refused, mapAnswer, answer}
-use Rattle.reading.specs.Part.{Part, noPart, cutTo, Span, handedBack}
+use Rattle.reading.specs.Check.{Answer, ok, refused, mapAnswer, answer}
+use Rattle.reading.specs.Part.{Part, noPart, cutTo, handedBack}
 use Rattle.reading.specs.Lent.{filled}
-
--- the reading calls of a format
-pub record Format : Type 1 where
-  -- a call with all that it is given beside the file
-  pub Call : Type 0
-  -- what it answers where it refuses nothing
-  pub Value : Call → Type 0
-  pub checks : (c : Call) → Check (Value c)
-  -- the part of the file that it hands back; no bytes from place 0 on for a call that hands back none
-  pub span : (c : Call) → Value c → Span
-  -- the list that it is lent beside the file, and what it writes to the front of it; both empty for a call that is lent none
-  pub Item : Call → Type 0
-  pub lent : (c : Call) → List (Item c)
-  pub writes : (c : Call) → Value c → List (Item c)
-  -- what a call has to ask for, so that the extent holds its answer: nothing, unless it is given a place in the file
-  pub asks : Call → List ℕ → Type 0
-  -- judging, and the extent in what it answers
-  pub judging : Call
-  pub extent : Value judging → ℕ
+use Rattle.promises.specs.Format.{Format}
+use Rattle.promises.specs.Abif.{abif}
+use Rattle.promises.specs.Sff.{sff}
+use Rattle.promises.specs.Gtc.{gtc}
 
 module _ (f : Format) where
   -- all that a caller sees of a call: its answer, the part handed back, and what the lent list then holds
@@ -52,7 +38,7 @@ module _ (f : Format) where
   abbrev pub JudgedWhole : Part → f .Value (f .judging) → Type 0
   JudgedWhole file v = answer (f .checks (f .judging)) (file .bytes) ≡ ok v
 
-  pub record Demand3 : Type 0 where
+  pub record Holds : Type 0 where
     -- a cut is refused with 1, or shows all that the file shows
     pub cut : (c : f .Call) (file : Part) (n : ℕ) → CutShort c (cutTo n file) ⊎ (seen c (cutTo n file) ≡ seen c file)
     -- the extent of a whole file lies within it
@@ -61,3 +47,17 @@ module _ (f : Format) where
     pub below : (file : Part) (v : f .Value (f .judging)) → JudgedWhole file v → (n : ℕ) → n < f .extent v → CutShort (f .judging) (cutTo n file)
     -- from the extent on every call, judging among them, shows all that it shows on the file
     pub from : (file : Part) (v : f .Value (f .judging)) → JudgedWhole file v → (n : ℕ) → f .extent v ≤ n → (c : f .Call) → f .asks c (file .bytes) → seen c (cutTo n file) ≡ seen c file
+
+pub data Name : Type 0 where
+  ABIF : Name
+  SFF : Name
+  GTC : Name
+
+abbrev pub formatOf : Name → Format
+formatOf ABIF = abif
+formatOf SFF = sff
+formatOf GTC = gtc
+
+-- it holds of every format
+abbrev pub Demand3 : Type 0
+Demand3 = (n : Name) → Holds (formatOf n)

@@ -1,4 +1,6 @@
-pub mod Demand3
+pub mod Format
 pub mod Abif
 pub mod Sff
+pub mod Gtc
+pub mod Demand3
 pub mod Samples

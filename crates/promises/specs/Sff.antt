@@ -16,7 +16,7 @@ use Rattle.sff.specs.Judge.{judging}
 use Rattle.sff.specs.Lookup.{readReading, readAtReading, spanOf}
 use Rattle.sff.specs.Places.{left, placesReading, Given}
 use Rattle.sff.specs.Flow.{flowReading}
-use Rattle.promises.specs.Demand3.{Format}
+use Rattle.promises.specs.Format.{Format}
 
 pub data Call : Type 0 where
   judge : Call

@@ -1,0 +1,62 @@
+-- GTC: the records of the SNPs from number `first` on.
+-- Assumes nothing.
+use Prim.Native.Nat.{ℕ, zero, suc, _+_, _-_, _*_}
+use mathlib.Core.List.{List, [], _∷_}
+use lib.ListN.{length}
+use lib.Dec.{leb}
+use Rattle.reading.specs.Choice.{isNumberOf}
+use Rattle.reading.specs.Check.{Check, Answer, ok, refused, done, provided, _>>=_, _>>_}
+use Rattle.gtc.specs.declared.genotype.Genotype.{Genotype}
+use Rattle.gtc.specs.declared.genotype.Genotype.the-variants.{NoCall, Null, Alleles}
+use Rattle.gtc.specs.declared.snp.SnpArrays.{SnpArrays}
+use Rattle.gtc.specs.declared.snp.Snp.{Snp}
+use Rattle.gtc.specs.declared.snps.Listed.{Listed}
+use Rattle.gtc.specs.declared.snps.Listed.the-variants.{Count, Refused}
+use Rattle.gtc.specs.Snp.{snpArrays, SnpBytes, snpBytes, snpAt}
+
+-- the records of n SNPs from SNP j on, counted from 0
+unfoldable pub snpsAt : SnpBytes → ℕ → ℕ → Check (List Snp)
+snpsAt b zero j = done []
+snpsAt b (suc n) j = do
+  r ← snpAt b j
+  rs ← snpsAt b n (j + 1)
+  done (r ∷ rs)
+
+-- the number of letters, and of those that are B; none where there is no call
+abbrev pub ploidy : Genotype → ℕ
+ploidy NoCall = 0
+ploidy Null = 0
+ploidy (Alleles p b) = p
+
+abbrev pub bAlleles : Genotype → ℕ
+bAlleles NoCall = 0
+bAlleles Null = 0
+bAlleles (Alleles p b) = b
+
+-- the records as numbers, eight for each
+abbrev pub allNumbers : List Snp → List ℕ
+allNumbers [] = []
+allNumbers (r ∷ rs) = r .code ∷ ploidy (r .genotype) ∷ bAlleles (r .genotype) ∷ r .«call_1» ∷ r .«call_2» ∷ r .«score_bits» ∷ r .x ∷ r .y ∷ allNumbers rs
+
+-- the number of SNPs from number `first` on
+abbrev pub left : SnpArrays → ℕ → ℕ
+left a first = a .genotypes .count - (first - 1)
+
+-- no such element 12, then the records' contents, then too little room 13
+unfoldable pub snpsOf : SnpArrays → ℕ → ℕ → Check (List Snp)
+snpsOf a first room = do
+  provided (isNumberOf first (a .genotypes .count)) 12
+  b ← snpBytes a
+  rs ← snpsAt b (left a first) (first - 1)
+  provided (leb (8 * left a first) room) 13
+  done rs
+
+unfoldable pub snpsReading : ℕ → ℕ → Check (List Snp)
+snpsReading first room = do
+  a ← snpArrays
+  snpsOf a first room
+
+-- the answer of document 01 that each case stands for
+abbrev pub listed : Listed → Answer ℕ
+listed (Count n) = ok n
+listed (Refused n) = refused n 0

@@ -1,0 +1,25 @@
+-- The reading calls of a format, as demand 3 speaks of them.
+-- Assumes nothing.
+use Prim.Native.Nat.{ℕ}
+use mathlib.Core.List.{List}
+use Rattle.reading.specs.Check.{Check}
+use Rattle.reading.specs.Part.{Span}
+
+-- the reading calls of a format
+pub record Format : Type 1 where
+  -- a call with all that it is given beside the file
+  pub Call : Type 0
+  -- what it answers where it refuses nothing
+  pub Value : Call → Type 0
+  pub checks : (c : Call) → Check (Value c)
+  -- the part of the file that it hands back; no bytes from place 0 on for a call that hands back none
+  pub span : (c : Call) → Value c → Span
+  -- the list that it is lent beside the file, and what it writes to the front of it; both empty for a call that is lent none
+  pub Item : Call → Type 0
+  pub lent : (c : Call) → List (Item c)
+  pub writes : (c : Call) → Value c → List (Item c)
+  -- what a call has to ask for, so that the extent holds its answer: nothing, unless it is given a place in the file
+  pub asks : Call → List ℕ → Type 0
+  -- judging, and the extent in what it answers
+  pub judging : Call
+  pub extent : Value judging → ℕ
