@@ -72,7 +72,7 @@ of-snps k w s q e h =
       opened = f .opened;
       snps = v .0;
       known = v .1;
-      count = z .0 ∙ equal-to-is (countField (f .entry .offset) (a .0)) (v .0 .offset) (must-ok _ _ 9 s (b .0) (v .2));
+      count = z .0 ∙ equal-to-is (countField (f .entry .offset) (a .0)) (v .0 .offset) (must-ok _ _ _ s (b .0) (v .2));
     }
 
 pub same-count : (v w : ℕ) (s : List ℕ) (q r : ItemData) → OfSnps v s q → OfSnps w s r → q .count ≡ r .count

@@ -115,7 +115,7 @@ lookup-under k s v w =
     subst (λ (t : Table). reach (lookupIn (t .upTo) (t .count) k) s ≤ x) q
     (reach-under x _ _ s (reach-must-under x _ _ _ s) (λ u l.
     reach-under x _ _ s (rw (with-none-needed s (a .0 .upTo) (a .0 .count) k) (omega arith)) (λ d f.
-    item-under x (a .0 .upTo) (a .0 .count) k d s f (must-ok _ _ 10 s u l) (a .4)))))
+    item-under x (a .0 .upTo) (a .0 .count) k d s f (must-ok _ _ _ s u l) (a .4)))))
   where
     item-under : (x : ℕ) (h : List ℕ) (n k : ℕ) (d : Entry) (s : List ℕ) → answer (entryWith h n k) s ≡ ok d → isListed (listingOf k) ≡ true → ((j : ℕ) → j < n → isListed (listingOf (entryOf h (entryPlace j) .id)) ≡ true → reach (checksOf h n (entryOf h (entryPlace j))) s ≤ x) → reach (itemCheck (listingOf (d .id)) h n d) s ≤ x
     item-under x h n k d s f l g =

@@ -1,11 +1,13 @@
 -- GTC: the records of the SNPs from number `first` on.
 -- Assumes nothing.
-use Prim.Native.Nat.{ℕ, zero, suc, _+_, _-_, _*_}
+use Prim.Native.Nat.{ℕ, zero, suc, _+_, _-_, _*_, _≤_}
+use mathlib.Core.Path.{_≡_}
 use mathlib.Core.List.{List, [], _∷_}
+use mathlib.Core.Bool.{Bool, true, false}
 use lib.ListN.{length}
 use lib.Dec.{leb}
 use Rattle.reading.specs.Choice.{isNumberOf}
-use Rattle.reading.specs.Check.{Check, Answer, ok, refused, done, provided, _>>=_, _>>_}
+use Rattle.reading.specs.Check.{Check, Answer, ok, refused, mapAnswer, done, provided, _>>=_, _>>_}
 use Rattle.gtc.specs.declared.genotype.Genotype.{Genotype}
 use Rattle.gtc.specs.declared.genotype.Genotype.the-variants.{NoCall, Null, Alleles}
 use Rattle.gtc.specs.declared.snp.SnpArrays.{SnpArrays}
@@ -60,3 +62,27 @@ snpsReading first room = do
 abbrev pub listed : Listed → Answer ℕ
 listed (Count n) = ok n
 listed (Refused n) = refused n 0
+
+-- a test of records: one is refused, or none
+abbrev pub broken : Bool → Answer (Unit {0})
+broken true = refused 11 0
+broken false = ok tt
+
+abbrev pub whether : {A : Type 0} → Answer A → Answer (Unit {0})
+whether r = mapAnswer (λ _. tt) r
+
+-- the arrays' sizes are those of one element for each SNP, as lookup has shown
+pub record Sized (a : SnpArrays) : Type 0 where
+  pub genotypes : a .genotypes .size ≡ a .genotypes .count
+  pub baseCalls : a .«base_calls» .size ≡ 2 * a .genotypes .count
+  pub scores : a .scores .size ≡ 4 * a .genotypes .count
+  pub x : a .x .size ≡ 2 * a .genotypes .count
+  pub y : a .y .size ≡ 2 * a .genotypes .count
+
+-- the elements of the first n SNPs are there
+pub record Elements (b : SnpBytes) (n : ℕ) : Type 0 where
+  pub genotypes : n ≤ length (b .genotypes)
+  pub baseCalls : 2 * n ≤ length (b .baseCalls)
+  pub scores : 4 * n ≤ length (b .scores)
+  pub x : 2 * n ≤ length (b .x)
+  pub y : 2 * n ≤ length (b .y)

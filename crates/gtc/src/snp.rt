@@ -120,7 +120,7 @@ pub(crate) fn is_base_call(v: u8) -> bool
 }
 
 // An array's elements.
-fn elements(s: &[u8], q: ItemData) -> &[u8]
+pub(crate) fn elements(s: &[u8], q: ItemData) -> &[u8]
     requires { ⌜ q .start + q .size ≤ length (now s) ⌝ }
     ensures { λ r. ⌜ now r ≡ elementsIn (now (s .entry)) q ⌝ }
 {

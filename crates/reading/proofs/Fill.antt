@@ -6,8 +6,8 @@ use mathlib.Core.Path.{_≡_, refl, sym, _∙_, ap}
 use mathlib.Core.List.{List, [], _∷_, _++_, append-assoc}
 use native.Mathlib.Numerals.{add-one}
 use native.Mathlib.Omega.{arith}
-use lib.ListN.{length, take, drop, set, length-set, length-drop, take-append-drop}
-use lib.Seq.{take-suc-set, take-set-le, drop-set-lt, drop-set-add, drop-drop}
+use lib.ListN.{length, take, drop, set, length-set, length-append, length-drop, take-append-drop}
+use lib.Seq.{length-take-le, take-suc-set, take-set-le, drop-set-lt, drop-set-add, drop-drop, take-at, sets, length-sets, sets-eq}
 use Rattle.reading.proofs.Loop.{Left, left-start, left-next, left-end}
 
 pub record Filling {A : Type 0} (W : ℕ → List A) (n i : ℕ) (o out whole : List A) : Type 0 where
@@ -21,6 +21,10 @@ module _ {A : Type 0} where
   pub fill-start : (W : ℕ → List A) (n : ℕ) (o : List A) → n ≤ length o → Filling W n 0 o o (W n ++ drop n o)
   fill-start W n o h = record { upTo = omega arith; room = h; same = refl; left = left-start (λ m. W m ++ drop n o) n }
 
+  drop-sets : (n : ℕ) (vs l : List A) (i : ℕ) → i + length vs ≤ n → drop n (sets l i vs) ≡ drop n l
+  drop-sets n [] l i h = refl
+  drop-sets n (a ∷ vs) l i h = drop-sets n vs (set l i a) (suc i) (omega arith) ∙ drop-set-lt n l i a (omega arith)
+
   module _ (W : ℕ → List A) (n i : ℕ) (o out whole : List A) (f : Filling W n i o out whole) where
     -- the next item is written
     pub fill-next : i < n → (v : A) (W′ : ℕ → List A) → ((m : ℕ) → W (suc m) ≡ v ∷ W′ m) → Filling W′ n (i + 1) o (set out i v) whole
@@ -33,6 +37,21 @@ module _ {A : Type 0} where
           room = omega arith;
           same = l ∙ f .same;
           left = left-next _ _ _ _ (f .left) (λ m. take (i + 1) (set out i v) ++ (W′ m ++ drop n (set out i v))) (λ m. rw (add-one i, take-suc-set out i v q, drop-set-lt n out i v h, g m) (simp append-assoc));
+        }
+
+    -- the next items are written, one after the other
+    pub fill-many : (vs : List A) → i + length vs ≤ n → (W′ : ℕ → List A) → ((m : ℕ) → W (length vs + m) ≡ vs ++ W′ m) → Filling W′ n (i + length vs) o (sets out i vs) whole
+    fill-many vs h W′ g =
+        let r : n ≤ length out = f .room in
+        let l : length (sets out i vs) ≡ length out = length-sets out i vs in
+        let rest = drop (i + length vs) out in
+        let z : length (take i out ++ vs) ≡ i + length vs = length-append (take i out) vs ∙ ap (λ (k : ℕ). k + length vs) (length-take-le i out (omega arith)) in
+        let t : take (i + length vs) (sets out i vs) ≡ take i out ++ vs = ap (take (i + length vs)) (sets-eq vs out i (omega arith)) ∙ take-at (take i out ++ vs) rest (i + length vs) z in
+        record {
+          upTo = h;
+          room = omega arith;
+          same = l ∙ f .same;
+          left = λ m e. rw (t, drop-sets n vs out i h) (append-assoc (take i out) vs (W′ m ++ drop n out) ∙ ap (λ (x : List A). take i out ++ x) (sym (append-assoc vs (W′ m) (drop n out))) ∙ ap (λ (x : List A). take i out ++ (x ++ drop n out)) (sym (g m)) ∙ f .left (length vs + m) (omega arith));
         }
 
     -- all is written

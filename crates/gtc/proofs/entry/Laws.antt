@@ -6,9 +6,7 @@ use mathlib.Core.List.{List}
 use mathlib.Core.Bool.{Bool, true, false}
 use native.Mathlib.Omega.{arith}
 use borrow.Author.Tests.{lt-ltb, le-ltb, eq-eqb, ne-eqb, ltb-true, eqb-true}
-use lib.Dec.{eqb}
 use Rattle.reading.specs.Choice.{pick}
-use Rattle.reading.specs.Number.{le}
 use Rattle.reading.specs.Check.{passed, failed, ok, run, answer, reach, holds}
 use Rattle.reading.proofs.Steps.{run-bind, run-must, run-done, reach-must, reach-done}
 use Rattle.reading.proofs.Passed.{bind-ok, must-ok, done-ok}
@@ -48,7 +46,7 @@ unfolding entryWith holds
 with-found l h n k d w =
     let a = bind-ok _ _ l d w in
     let b = bind-ok _ _ l d (a .2) in
-    (ltb-true _ n (must-ok _ _ 7 l (a .0) (a .1)), sym (done-ok _ d l (b .2)))
+    (ltb-true _ n (must-ok _ _ _ l (a .0) (a .1)), sym (done-ok _ d l (b .2)))
 
 -- finding it needs no bytes but the table's
 pub with-none-needed : (l h : List ℕ) (n k : ℕ) → reach (entryWith h n k) l ≡ 0
@@ -59,19 +57,19 @@ pub entry-place : (h : List ℕ) (p : ℕ) → entryOf h p .place ≡ p
 unfolding entryOf
 entry-place h p = refl
 
--- it has the id
-pub first-has : (h : List ℕ) (k n i : ℕ) → firstId h k n i < i + n → le 2 h (entryPlace (firstId h k n i)) ≡ k
-unfolding firstId hasId
+-- the first entry with an id has it
+pub first-has : (h : List ℕ) (k n i : ℕ) → firstId h k n i < i + n → hasId h k (firstId h k n i) ≡ true
+unfolding firstId
 first-has h k zero i l = absurd (omega arith)
-first-has h k (suc n) i l = go (eqb (le 2 h (entryPlace i)) k) refl l (first-has h k n (i + 1))
+first-has h k (suc n) i l = go (hasId h k i) refl l (first-has h k n (i + 1))
   where
-    go : (b : Bool) → eqb (le 2 h (entryPlace i)) k ≡ b → pick b i (firstId h k n (i + 1)) < i + suc n → (firstId h k n (i + 1) < i + 1 + n → le 2 h (entryPlace (firstId h k n (i + 1))) ≡ k) → le 2 h (entryPlace (pick b i (firstId h k n (i + 1)))) ≡ k
-    go true q m u = eqb-true _ k q
+    go : (b : Bool) → hasId h k i ≡ b → pick b i (firstId h k n (i + 1)) < i + suc n → (firstId h k n (i + 1) < i + 1 + n → hasId h k (firstId h k n (i + 1)) ≡ true) → hasId h k (pick b i (firstId h k n (i + 1))) ≡ true
+    go true q m u = q
     go false q m u = u (omega arith)
 
--- the entry that is found has the id
+-- so the entry that is found has the id
 pub found-id : (l h : List ℕ) (n k : ℕ) (d : Entry) → answer (entryWith h n k) l ≡ ok d → d .id ≡ k
-unfolding entryOf
+unfolding entryOf hasId
 found-id l h n k d w =
     let f = with-found l h n k d w in
-    ap (λ (d : Entry). d .id) (f .1) ∙ first-has h k n 0 (omega arith)
+    ap (λ (d : Entry). d .id) (f .1) ∙ eqb-true _ k (first-has h k n 0 (omega arith))

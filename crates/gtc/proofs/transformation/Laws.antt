@@ -21,7 +21,7 @@ reading-within k s t w =
     let q = bind-ok (lookingUp 400) _ s t w in
     let a = bind-ok _ _ s t (q .2) in
     let b = bind-ok _ _ s t (a .2) in
-    let n = number-within k (q .0 .count) (must-ok _ _ 12 s (a .0) (a .1)) in
+    let n = number-within k (q .0 .count) (must-ok _ _ _ s (a .0) (a .1)) in
     let z = array-sized 400 52 s (q .0) refl (q .1) in
     let l = lookup-within 400 s (q .0) (q .1) in
     subst (λ (x : Transformed). x .start + 52 ≤ length s) (done-ok _ t s (b .2)) (omega arith)

@@ -1,0 +1,26 @@
+use borrow.Author.Needs.{needs}
+use Rattle.gtc.proofs.snps.long_at.Statement.{statement}
+use Rattle.gtc.proofs.snps.long_at.Tie as tie
+use Rattle.gtc.proofs.snps.Laws.{read-part}
+
+add-end : tie.Need-add-end
+add-end c = search needs
+
+sub-le32 : tie.Need-sub-le32
+sub-le32 c = search needs
+
+part-le32-start : tie.Need-part-le32-start
+part-le32-start c = search needs
+
+part-le32-end : tie.Need-part-le32-end
+part-le32-end c = search needs
+
+le32-requires : tie.Need-le32-requires
+le32-requires c κs = search needs
+
+returns : tie.Need-returns
+returns c = let g = c .before .before .before .args in read-part 4 (g .p) (g .l .now) _ (c .le32 .ensures)
+
+pub long-at-spec : {M : Type 1} → statement M
+long-at-spec =
+    tie.close (tie.spec add-end sub-le32 part-le32-start part-le32-end le32-requires returns)

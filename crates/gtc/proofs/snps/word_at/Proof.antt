@@ -1,0 +1,26 @@
+use borrow.Author.Needs.{needs}
+use Rattle.gtc.proofs.snps.word_at.Statement.{statement}
+use Rattle.gtc.proofs.snps.word_at.Tie as tie
+use Rattle.gtc.proofs.snps.Laws.{read-part}
+
+add-end : tie.Need-add-end
+add-end c = search needs
+
+sub-le16 : tie.Need-sub-le16
+sub-le16 c = search needs
+
+part-le16-start : tie.Need-part-le16-start
+part-le16-start c = search needs
+
+part-le16-end : tie.Need-part-le16-end
+part-le16-end c = search needs
+
+le16-requires : tie.Need-le16-requires
+le16-requires c κs = search needs
+
+returns : tie.Need-returns
+returns c = let g = c .before .before .before .args in read-part 2 (g .p) (g .l .now) _ (c .le16 .ensures)
+
+pub word-at-spec : {M : Type 1} → statement M
+word-at-spec =
+    tie.close (tie.spec add-end sub-le16 part-le16-start part-le16-end le16-requires returns)
