@@ -32,13 +32,13 @@
 extern "C" {
 #endif
 
-/* A whole file's extent; refused, the entry or read at fault, from one, or 0 for the header, the directory's place and
-   the index. */
+/* A whole file's extent; refused, the entry or read at fault, from one, or 0 for the header, the place of the directory
+   or table, and the index. */
 typedef struct jt_verdict {
     uint64_t refusal;
     uint64_t entry;
     uint64_t extent;
-    uint64_t unjudged; /* 0 for ABIF and SFF */
+    uint64_t unjudged; /* GTC: the entries whose id the format does not list; 0 for ABIF and SFF */
 } jt_verdict;
 
 /* A directory's place and its number of entries. */
@@ -51,7 +51,7 @@ typedef struct jt_opened {
 /* An item: its element type, its number of elements, and where its data stand. */
 typedef struct jt_item {
     uint64_t refusal;
-    uint64_t type;
+    uint64_t type; /* GTC: the id */
     uint64_t count;
     uint64_t start;
     uint64_t length;
@@ -139,6 +139,51 @@ typedef struct jt_flow {
     uint64_t flow;
 } jt_flow;
 
+/* A SNP of a GTC file: its genotype code, how many letters the genotype has (0 for NC and NULL) and how many of them
+   are B, the two letters of its base call, the bits of its score as a 32-bit float, and its raw intensities. */
+typedef struct jt_snp {
+    uint64_t refusal;
+    uint64_t code;
+    uint64_t ploidy;
+    uint64_t b_alleles;
+    uint64_t call_1;
+    uint64_t call_2;
+    uint64_t score_bits;
+    uint64_t x;
+    uint64_t y;
+} jt_snp;
+
+/* How many numbers jt_gtc_snps writes for a SNP: the fields of jt_snp from `code` to `y`. */
+enum { JT_SNP_NUMBERS = 8 };
+
+/* A normalization transformation of a GTC file. A float that is a NaN is some NaN. */
+typedef struct jt_transformation {
+    int32_t version;
+    float offset_x;
+    float offset_y;
+    float scale_x;
+    float scale_y;
+    float shear;
+    float theta;
+    float reserved_1;
+    float reserved_2;
+    float reserved_3;
+    float reserved_4;
+    float reserved_5;
+    float reserved_6;
+} jt_transformation;
+
+typedef struct jt_transformation_answer {
+    uint64_t refusal;
+    jt_transformation value;
+} jt_transformation_answer;
+
+/* Normalised intensities. */
+typedef struct jt_point {
+    float x;
+    float y;
+} jt_point;
+
 /* Whether the bytes are a whole ABIF file, and its extent. */
 jt_verdict jt_abif_judge(const uint8_t *bytes, size_t len);
 
@@ -178,6 +223,31 @@ struct jt_sff_read jt_sff_read_at(const uint8_t *bytes, size_t len, uint64_t sta
 
 /* The flow that base `base`, from one, of read `k` was called from. Refusals: those of jt_sff_read, 12. */
 jt_flow jt_sff_flow_of_base(const uint8_t *bytes, size_t len, uint64_t k, uint64_t base);
+
+/* Whether the bytes are a whole GTC file, its extent, and how many of its entries were not judged. Genotypes and base
+   calls are not judged. */
+jt_verdict jt_gtc_judge(const uint8_t *bytes, size_t len);
+
+/* The item with this id. Its data are the offset field for 1, 2, 3 and 1010, a string's characters, an array's
+   elements, else all of the item; its count is that of an array's elements, else of its bytes. */
+jt_item jt_gtc_lookup(const uint8_t *bytes, size_t len, uint16_t id);
+
+/* The record of SNP `index`, from one. Refusals: those of looking up genotypes, base calls, scores, X and Y, in this
+   order, then 12, then 11. */
+jt_snp jt_gtc_snp(const uint8_t *bytes, size_t len, uint64_t index);
+
+/* The records of the SNPs from number `first` on, as many as are left, at the front of `out`: for each the eight
+   numbers of jt_snp behind `refusal`, in their order. `room` counts numbers, and the answer's `count` SNPs. The arrays
+   are looked up once, however many SNPs there are. Refusals: the lookups' as above, 12, 11 where a SNP from `first` on
+   has a genotype or a base call that the format forbids, 13. Refused, `out` is unchanged. */
+jt_listed jt_gtc_snps(const uint8_t *bytes, size_t len, uint64_t first, uint64_t *out, size_t room);
+
+/* Transformation `k`, from one. Refusals: those of looking up id 400, 12. */
+jt_transformation_answer jt_gtc_transformation(const uint8_t *bytes, size_t len, uint64_t k);
+
+/* Raw intensities normalised by a transformation, with the cosine and the sine of its theta. Every operation rounds to
+   32 bits. A result that is a NaN is some NaN. */
+jt_point jt_gtc_normalise(jt_transformation t, uint16_t x, uint16_t y, float cos_theta, float sin_theta);
 
 #ifdef __cplusplus
 }

@@ -1,6 +1,7 @@
 //! The library's time against the plain Rust readers', call by call in one run.
 
 mod abif;
+mod gtc;
 mod sff;
 mod timing;
 
@@ -14,4 +15,9 @@ fn main() {
     sff::places(&file);
     sff::reads_at_places(&file);
     sff::every_read(&file);
+    let file = gtc::array_file();
+    gtc::judging(&file);
+    gtc::single_snps(&file);
+    gtc::all_snps(&file);
+    gtc::normalising(&file);
 }

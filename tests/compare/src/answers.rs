@@ -14,6 +14,17 @@ pub struct Verdict {
     pub unjudged: u64,
 }
 
+/// An item: its type (for GTC its id), its count, and where its data stand.
+#[repr(C)]
+#[derive(Clone, Copy, Debug, Default, PartialEq, Eq)]
+pub struct Found {
+    pub refusal: u64,
+    pub type_code: u64,
+    pub count: u64,
+    pub start: u64,
+    pub length: u64,
+}
+
 #[repr(C)]
 #[derive(Clone, Copy, Debug, Default, PartialEq, Eq)]
 pub struct Listed {
@@ -34,6 +45,15 @@ impl Verdict {
             refusal,
             entry,
             ..Verdict::default()
+        }
+    }
+}
+
+impl Found {
+    pub fn refused(refusal: u64) -> Found {
+        Found {
+            refusal,
+            ..Found::default()
         }
     }
 }

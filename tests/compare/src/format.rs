@@ -2,7 +2,6 @@
 
 use crate::answers::Verdict;
 use crate::random::Random;
-use crate::refusal::Refused;
 use std::fmt::Debug;
 use std::ops::Range;
 
@@ -37,14 +36,14 @@ pub trait Format {
 
     fn bytes(draft: &Self::Draft) -> Vec<u8>;
 
-    /// The extent that a whole file built from this draft has.
-    fn extent(draft: &Self::Draft) -> usize;
+    /// The judgement that a whole file built from this draft gets.
+    fn built_for(draft: &Self::Draft) -> Verdict;
 
     /// Where the fields of the draft's header, entries and reads stand.
     fn fields(draft: &Self::Draft) -> Vec<Range<usize>>;
 
     /// The reader's judgement.
-    fn judge(bytes: &[u8]) -> Result<usize, Refused>;
+    fn judge(bytes: &[u8]) -> Verdict;
 
     /// Every call on the file, with arguments from the file, from its draft, and past both.
     fn questions(bytes: &[u8], draft: Option<&Self::Draft>) -> Vec<Self::Question>;

@@ -1,8 +1,8 @@
-//! The lines that the program prints for its standard input, as far as it is ABIF, SFF or unknown.
+//! The lines that the program prints for its standard input.
 
 use crate::abif::reader::Entry;
 use crate::refusal::Refused;
-use crate::{abif, sff};
+use crate::{abif, gtc, sff};
 use std::fmt::Write;
 
 const MOST_BYTES: usize = 65_536;
@@ -15,6 +15,8 @@ pub fn lines(input: &[u8]) -> String {
         abif_lines(input)
     } else if input.starts_with(b".sff") {
         first_line("SFF", input, sff::reader::judge(input))
+    } else if input.starts_with(b"gtc") {
+        gtc_line(input)
     } else {
         "unknown\n".to_string()
     }
@@ -27,6 +29,16 @@ fn first_line(format: &str, input: &[u8], judged: Result<usize, Refused>) -> Str
             let number = refused.refusal as u64;
             format!("{format} refused {number} at {}\n", refused.entry)
         }
+    }
+}
+
+// Only a whole file's line tells how many entries were not judged.
+fn gtc_line(input: &[u8]) -> String {
+    let judged = gtc::reader::judge(input);
+    let text = first_line("GTC", input, judged.map(|judged| judged.extent));
+    match judged {
+        Ok(judged) => format!("{} unjudged {}\n", text.trim_end(), judged.unjudged),
+        Err(_) => text,
     }
 }
 

@@ -13,6 +13,7 @@ pub struct Group {
     inputs: u64,
     comparisons: u64,
     mismatches: u64,
+    remark: String,
 }
 
 impl Group {
@@ -23,11 +24,17 @@ impl Group {
             inputs: 0,
             comparisons: 0,
             mismatches: 0,
+            remark: String::new(),
         }
     }
 
     pub fn input(&mut self) {
         self.inputs += 1;
+    }
+
+    /// What the group's line ends with.
+    pub fn remark(&mut self, remark: String) {
+        self.remark = format!("; {remark}");
     }
 
     /// Counts one comparison and, where it fails, shows the message and the file.
@@ -67,13 +74,14 @@ impl Group {
         let time: Duration = self.start.elapsed();
         let passed = self.mismatches == 0 && self.comparisons > 0;
         println!(
-            "{} {}: {} inputs, {} comparisons, {} mismatches, {:.2} s",
+            "{} {}: {} inputs, {} comparisons, {} mismatches, {:.2} s{}",
             if passed { "ok    " } else { "FAILED" },
             self.name,
             self.inputs,
             self.comparisons,
             self.mismatches,
-            time.as_secs_f64()
+            time.as_secs_f64(),
+            self.remark
         );
         passed
     }

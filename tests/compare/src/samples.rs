@@ -1,6 +1,6 @@
 //! The stored files, each with the lines that the program prints for it.
 
-use crate::{abif, program, sff};
+use crate::{abif, gtc, program, sff};
 use std::path::Path;
 use std::{fs, io};
 
@@ -10,6 +10,7 @@ pub type Sample = (&'static str, Vec<u8>);
 pub fn all() -> Vec<Sample> {
     let mut samples = abif::samples::all();
     samples.extend(sff::samples::all());
+    samples.extend(gtc::samples::all());
     samples.extend([
         ("empty.txt", Vec::new()),
         ("not-a-file-we-know.txt", b"Nothing we read.\n".to_vec()),

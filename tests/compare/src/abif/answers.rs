@@ -1,6 +1,7 @@
 //! The answers of the ABIF functions, field by field, and the same answers made from the reader's.
 
 use super::reader::{Directory, Item, Value};
+use crate::answers::Found;
 use crate::refusal::Refusal;
 use std::ops::Range;
 
@@ -10,16 +11,6 @@ pub struct Opened {
     pub refusal: u64,
     pub place: u64,
     pub count: u64,
-}
-
-#[repr(C)]
-#[derive(Clone, Copy, Debug, Default, PartialEq, Eq)]
-pub struct Found {
-    pub refusal: u64,
-    pub type_code: u64,
-    pub count: u64,
-    pub start: u64,
-    pub length: u64,
 }
 
 #[repr(C)]
@@ -91,10 +82,7 @@ impl From<Result<Item, Refusal>> for Found {
                 start: item.start as u64,
                 length: item.length as u64,
             },
-            Err(refusal) => Found {
-                refusal: refusal as u64,
-                ..Found::default()
-            },
+            Err(refusal) => Found::refused(refusal as u64),
         }
     }
 }

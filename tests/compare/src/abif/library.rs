@@ -1,8 +1,8 @@
 //! The library's ABIF functions behind safe calls.
 
-use super::answers::{Element, Found, Opened, Part};
+use super::answers::{Element, Opened, Part};
 use super::reader::Tag;
-use crate::answers::{Listed, Verdict};
+use crate::answers::{Found, Listed, Verdict};
 
 extern "C" {
     fn jt_abif_judge(bytes: *const u8, len: usize) -> Verdict;

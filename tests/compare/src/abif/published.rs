@@ -1,10 +1,10 @@
 //! The published samples with their published answers, asked of library and reader.
 
-use super::answers::{Element, Found, Opened, Part};
+use super::answers::{Element, Opened, Part};
 use super::questions::{Answer, Question};
 use super::reader::Tag;
 use super::samples;
-use crate::answers::{Listed, Verdict};
+use crate::answers::{Found, Listed, Verdict};
 use crate::format::Question as _;
 use crate::groups::expect;
 use crate::program;
@@ -30,10 +30,7 @@ fn refused(refusal: u64, entry: u64) -> Answer {
 }
 
 fn not_found(refusal: u64) -> Answer {
-    Answer::Found(Found {
-        refusal,
-        ..Found::default()
-    })
+    Answer::Found(Found::refused(refusal))
 }
 
 fn no_element(refusal: u64) -> Answer {

@@ -1,9 +1,9 @@
 //! Calls with their arguments, asked of the library and of the reader alike.
 
-use super::answers::{Element, Found, Opened, Part};
+use super::answers::{Element, Opened, Part};
 use super::library;
 use super::reader::{self, Tag};
-use crate::answers::{Verdict, Written};
+use crate::answers::{Found, Verdict, Written};
 use crate::arguments::{numbers_around, rooms, sample};
 use crate::format;
 

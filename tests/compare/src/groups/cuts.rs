@@ -1,6 +1,5 @@
 //! Every beginning of many small files, in any format.
 
-use crate::answers::Verdict;
 use crate::damage::{random_byte_changes, random_changes};
 use crate::format::{Answer, Format, Question};
 use crate::random::Random;
@@ -94,11 +93,8 @@ fn extent_of<Q: Question>(file: &[u8]) -> Option<usize> {
 // answer is settled, parts the two; judging must find the same extent in every longer cut.
 fn is_due<A: Answer>(answer: &A, full: &A, length: usize, settled: Option<usize>) -> bool {
     match (settled, answer.verdict()) {
-        (Some(extent), Some(verdict)) if length >= extent => {
-            verdict == Verdict::whole(extent as u64)
-        }
+        (Some(extent), _) if length >= extent => answer == full,
         (Some(_), Some(_)) => answer.is_cut_short(),
-        (Some(extent), None) if length >= extent => answer == full,
         _ => answer == full || answer.is_cut_short(),
     }
 }

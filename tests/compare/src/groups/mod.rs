@@ -7,13 +7,13 @@ pub mod whole;
 
 use crate::format::{Format, Question};
 use crate::report::Group;
-use crate::{abif, sff};
+use crate::{abif, gtc, sff};
 
 pub type Run = fn(&mut Group);
 
 pub fn all() -> Vec<(&'static str, Run)> {
     let program: (&str, Run) = ("program lines", program_lines::lines);
-    [&abif::GROUPS[..], &sff::GROUPS, &[program]].concat()
+    [&abif::GROUPS[..], &sff::GROUPS, &gtc::GROUPS, &[program]].concat()
 }
 
 /// Compares library and reader in every call on this file, and sees that the file stays as it is.

@@ -3,6 +3,7 @@
 use crate::abif::{self, Abif};
 use crate::damage::{random_byte_changes, random_changes};
 use crate::format::Format;
+use crate::gtc::{self, Gtc};
 use crate::program;
 use crate::random::Random;
 use crate::report::Group;
@@ -32,11 +33,15 @@ pub fn lines(group: &mut Group) {
 
 // A read of standard input may hand out less than the whole file.
 fn in_two_pieces(group: &mut Group, program: &Path) {
-    for file in [abif::samples::one_inline_item(), sff::samples::one_read()] {
+    for file in [
+        abif::samples::one_inline_item(),
+        sff::samples::one_read(),
+        gtc::samples::three_snps(),
+    ] {
         for length in [file.len(), LONGEST_INPUT, LONGEST_INPUT + 1] {
             let mut input = file.clone();
             input.resize(length, 0);
-            for first in [0, 3, 4, 50, length - 1] {
+            for first in [0, 2, 3, 4, 50, length - 1] {
                 compare_lines(group, program, &input, first);
             }
         }
@@ -71,9 +76,14 @@ fn generated_inputs() -> Vec<Vec<u8>> {
     let mut inputs = at_the_limit();
     inputs.extend(generated_files::<Abif>(999));
     inputs.extend(generated_files::<Sff>(500));
+    inputs.extend(generated_files::<Gtc>(999));
     let abif = ["A", "AB", "ABI", "ABIG", "abif", "FIBA", "\0ABIF"];
     let sff = [".", ".s", ".sf", ".sfg", ".SFF", "ffs.", "\0.sff", "sff"];
-    for mark in ["", " "].into_iter().chain(abif).chain(sff) {
+    let gtc = [
+        "g", "gt", "gtc", "gtc\x05", "gtd", "GTC", "gTc", "ctg", "\0gtc", "tc",
+    ];
+    let marks = ["", " "].into_iter().chain(abif).chain(sff).chain(gtc);
+    for mark in marks {
         inputs.push(mark.into());
         inputs.push(format!("{mark}{}", "x".repeat(200)).into());
     }
@@ -98,6 +108,7 @@ fn at_the_limit() -> Vec<Vec<u8>> {
         for file in [
             abif::samples::one_item_at_an_offset(),
             sff::samples::one_read(),
+            gtc::samples::three_snps(),
         ] {
             let mut whole = file;
             whole.resize(length, b'x');

@@ -8,13 +8,13 @@ use crate::report::Group;
 const FILES: usize = 20_000;
 const MOST_ENTRIES: usize = 12;
 
-/// Compares every call and sees that the file is whole with the extent that it was built for.
+/// Compares every call and sees that the file is judged as it was built to be.
 pub fn compare_whole<F: Format>(group: &mut Group, draft: &F::Draft) {
     let bytes = F::bytes(draft);
     let judged = F::judge(&bytes);
-    let extent = F::extent(draft);
-    group.check(judged == Ok(extent), &bytes, || {
-        format!("reader's judgement {judged:?}, built for extent {extent}")
+    let built_for = F::built_for(draft);
+    group.check(judged == built_for, &bytes, || {
+        format!("reader's judgement {judged:?}, built for {built_for:?}")
     });
     compare_file::<F>(group, &bytes, None);
 }

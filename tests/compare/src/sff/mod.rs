@@ -11,11 +11,11 @@ pub mod reader;
 pub mod samples;
 mod whole;
 
+use crate::answers::Verdict;
 use crate::format::Format;
 use crate::groups::whole::random_files;
 use crate::groups::{cuts, damaged, Run};
 use crate::random::Random;
-use crate::refusal::Refused;
 use damage::Change;
 use draft::Draft;
 use questions::Question;
@@ -53,16 +53,16 @@ impl Format for Sff {
         draft.bytes()
     }
 
-    fn extent(draft: &Draft) -> usize {
-        draft.layout().end
+    fn built_for(draft: &Draft) -> Verdict {
+        Verdict::whole(draft.layout().end as u64)
     }
 
     fn fields(draft: &Draft) -> Vec<Range<usize>> {
         draft.fields()
     }
 
-    fn judge(bytes: &[u8]) -> Result<usize, Refused> {
-        reader::judge(bytes)
+    fn judge(bytes: &[u8]) -> Verdict {
+        reader::judge(bytes).into()
     }
 
     fn questions(bytes: &[u8], _draft: Option<&Draft>) -> Vec<Question> {

@@ -1,0 +1,118 @@
+//! Calls with their arguments, asked of the library and of the reader alike.
+
+use super::answers::{Snp, TransformationAnswer};
+use super::draft::{listed_ids, TRANSFORMATIONS};
+use super::generate::UNLISTED;
+use super::library;
+use super::reader::{self, SnpArrays, RECORD_NUMBERS};
+use crate::answers::{Found, Verdict, Written};
+use crate::arguments::{numbers_around, rooms, sample};
+use crate::format;
+
+#[derive(Clone, Copy, Debug)]
+pub enum Question {
+    Judge,
+    Lookup(u16),
+    Snp(u64),
+    Snps { first: u64, room: usize },
+    Transformation(u64),
+}
+
+#[derive(Clone, Debug, PartialEq)]
+pub enum Answer {
+    Verdict(Verdict),
+    Found(Found),
+    Snp(Snp),
+    Snps(Written<u64>),
+    Transformation(TransformationAnswer),
+}
+
+impl format::Answer for Answer {
+    fn verdict(&self) -> Option<Verdict> {
+        match self {
+            Answer::Verdict(verdict) => Some(*verdict),
+            _ => None,
+        }
+    }
+
+    fn is_cut_short(&self) -> bool {
+        match self {
+            Answer::Verdict(verdict) => verdict.refusal == 1,
+            Answer::Found(found) => found.refusal == 1,
+            Answer::Snp(snp) => snp.refusal == 1,
+            Answer::Snps(written) => written.is_cut_short(),
+            Answer::Transformation(answer) => answer.refusal == 1,
+        }
+    }
+}
+
+impl format::Question for Question {
+    type Answer = Answer;
+    const JUDGE: Question = Question::Judge;
+
+    fn ask_library(&self, bytes: &[u8]) -> Answer {
+        match *self {
+            Question::Judge => Answer::Verdict(library::judge(bytes)),
+            Question::Lookup(id) => Answer::Found(library::lookup(bytes, id)),
+            Question::Snp(number) => Answer::Snp(library::snp(bytes, number)),
+            Question::Snps { first, room } => {
+                let call = |out: &mut [u64]| library::snps(bytes, first, out);
+                Answer::Snps(Written::by(room, call))
+            }
+            Question::Transformation(number) => {
+                Answer::Transformation(library::transformation(bytes, number))
+            }
+        }
+    }
+
+    fn ask_reader(&self, bytes: &[u8]) -> Answer {
+        match *self {
+            Question::Judge => Answer::Verdict(reader::judge(bytes).into()),
+            Question::Lookup(id) => Answer::Found(reader::lookup(bytes, id).into()),
+            Question::Snp(number) => Answer::Snp(reader::snp(bytes, number).into()),
+            Question::Snps { first, room } => {
+                let call = |out: &mut [u64]| reader::snps(bytes, first, out).into();
+                Answer::Snps(Written::by(room, call))
+            }
+            Question::Transformation(number) => {
+                Answer::Transformation(reader::transformation(bytes, number).into())
+            }
+        }
+    }
+
+    fn holds_from_extent(&self, _file: &[u8]) -> bool {
+        true
+    }
+}
+
+/// Every call on the file: for all ids of the format, for others, and for every kind of number.
+pub fn questions(bytes: &[u8], more: &[u16]) -> Vec<Question> {
+    let mut list = vec![Question::Judge];
+    list.extend(ids(bytes, more).into_iter().map(Question::Lookup));
+    let snps = SnpArrays::of(bytes).map_or(2, |arrays| arrays.count());
+    for number in numbers_around(snps as u64) {
+        list.push(Question::Snp(number));
+        let left = (snps as u64 + 1).saturating_sub(number.max(1)) as usize;
+        for room in rooms(RECORD_NUMBERS * left) {
+            list.push(Question::Snps {
+                first: number,
+                room,
+            });
+        }
+    }
+    let transformations = reader::lookup(bytes, TRANSFORMATIONS).map_or(2, |item| item.count);
+    let numbers = numbers_around(transformations);
+    list.extend(numbers.into_iter().map(Question::Transformation));
+    list
+}
+
+// All listed ids, a selection of the others in the file and in `more`, and ids that are in neither.
+fn ids(bytes: &[u8], more: &[u16]) -> Vec<u16> {
+    let mut ids = listed_ids();
+    ids.extend(sample(&reader::ids(bytes)));
+    ids.extend(sample(more));
+    ids.extend(sample(&UNLISTED));
+    ids.sort_unstable();
+    ids.dedup();
+    ids
+}
