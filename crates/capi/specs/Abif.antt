@@ -2,7 +2,7 @@
 -- Assumes nothing.
 use Prim.Native.Nat.{ℕ}
 use lib.IntN.{ℤ, pos}
-use lib.Ieee.{Float, binary32, binary64, ofBits}
+use lib.Ieee.{Float}
 use Rattle.reading.specs.Choice.{pick}
 use Rattle.reading.specs.Check.{Answer, ok, refused}
 use Rattle.abif.specs.declared.lookup.ItemData.{ItemData}
@@ -10,6 +10,7 @@ use Rattle.abif.specs.Element.{Value, whole, single, double, date, time, bool, 
 use Rattle.capi.specs.declared.answers.Opened.{Opened}
 use Rattle.capi.specs.declared.answers.Item.{Item}
 use Rattle.capi.specs.declared.answers.Element.{Element}
+use Rattle.capi.specs.Answers.{zero32, zero64}
 
 -- the directory's place and count
 abbrev pub asOpened : Answer (ℕ × ℕ) → Opened
@@ -19,13 +20,6 @@ asOpened (refused n e) = record { refusal = n; place = 0; count = 0 }
 abbrev pub asItem : Answer ItemData → Item
 asItem (ok q) = record { refusal = 0; code = q .«element_type»; count = q .count; start = q .start; length = q .size }
 asItem (refused n e) = record { refusal = n; code = 0; count = 0; start = 0; length = 0 }
-
--- 0.0
-abbrev pub zero32 : Float
-zero32 = ofBits binary32 0
-
-abbrev pub zero64 : Float
-zero64 = ofBits binary64 0
 
 -- an element of kind k that is a number
 abbrev pub numberElement : ℕ → ℤ → Element

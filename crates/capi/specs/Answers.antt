@@ -1,6 +1,7 @@
 -- The struct that each answer of document 01 is for a C program.
 -- Assumes nothing.
 use Prim.Native.Nat.{ℕ}
+use lib.Ieee.{Float, binary32, binary64, ofBits}
 use Rattle.reading.specs.Check.{Answer, ok, refused}
 use Rattle.reading.specs.Part.{Span}
 use Rattle.capi.specs.declared.answers.Verdict.{Verdict}
@@ -20,3 +21,10 @@ asPart (refused n e) = record { refusal = n; start = 0; length = 0 }
 abbrev pub asListed : Answer ℕ → Listed
 asListed (ok n) = record { refusal = 0; count = n }
 asListed (refused n e) = record { refusal = n; count = 0 }
+
+-- 0.0
+abbrev pub zero32 : Float
+zero32 = ofBits binary32 0
+
+abbrev pub zero64 : Float
+zero64 = ofBits binary64 0

@@ -1,3 +1,4 @@
 pub mod Answers
 pub mod Abif
 pub mod Sff
+pub mod Gtc

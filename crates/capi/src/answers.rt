@@ -1,4 +1,5 @@
 // The answers that C programs get. `refusal` is 0 for an answer, else the refusal's number, and then every other field is 0, but for a verdict's entry.
+use gtc::transformation::Transformation;
 
 // What judging finds; `unjudged` counts a GTC file's entries that are not judged.
 #[repr(C)]
@@ -17,7 +18,7 @@ pub struct Opened {
     pub count: u64,
 }
 
-// An item: its type's code, which C calls `type`, its number of elements, and where its data stand.
+// An item: its type's code, which C calls `type` (in a GTC file its id), its number of elements, and where its data stand.
 #[repr(C)]
 pub struct Item {
     pub refusal: u64,
@@ -99,4 +100,26 @@ pub struct SffRead {
 pub struct Flow {
     pub refusal: u64,
     pub flow: u64,
+}
+
+// A SNP's record: the genotype's code, its number of letters and of those that are B, the letters of the base call, the score's bits, and the
+// intensities.
+#[repr(C)]
+pub struct Snp {
+    pub refusal: u64,
+    pub code: u64,
+    pub ploidy: u64,
+    pub b_alleles: u64,
+    pub call_1: u64,
+    pub call_2: u64,
+    pub score_bits: u64,
+    pub x: u64,
+    pub y: u64,
+}
+
+// A transformation of a GTC file; every field of it is 0 where it is refused.
+#[repr(C)]
+pub struct TransformationAnswer {
+    pub refusal: u64,
+    pub value: Transformation,
 }

@@ -28,6 +28,17 @@ meaning code =
     (pick (leb code 6) (Alleles 1 (code - 5))
     (lettersFrom code 3 6))))
 
+-- the number of letters, and of those that are B; none where there is no call
+abbrev pub ploidy : Genotype → ℕ
+ploidy NoCall = 0
+ploidy Null = 0
+ploidy (Alleles p b) = p
+
+abbrev pub bAlleles : Genotype → ℕ
+bAlleles NoCall = 0
+bAlleles Null = 0
+bAlleles (Alleles p b) = b
+
 -- over 45 is 11
 unfoldable pub decoding : ℕ → Check Genotype
 decoding code = do

@@ -8,12 +8,11 @@ use lib.ListN.{length}
 use lib.Dec.{leb}
 use Rattle.reading.specs.Choice.{isNumberOf}
 use Rattle.reading.specs.Check.{Check, Answer, ok, refused, mapAnswer, done, provided, _>>=_, _>>_}
-use Rattle.gtc.specs.declared.genotype.Genotype.{Genotype}
-use Rattle.gtc.specs.declared.genotype.Genotype.the-variants.{NoCall, Null, Alleles}
 use Rattle.gtc.specs.declared.snp.SnpArrays.{SnpArrays}
 use Rattle.gtc.specs.declared.snp.Snp.{Snp}
 use Rattle.gtc.specs.declared.snps.Listed.{Listed}
 use Rattle.gtc.specs.declared.snps.Listed.the-variants.{Count, Refused}
+use Rattle.gtc.specs.Genotype.{ploidy, bAlleles}
 use Rattle.gtc.specs.Snp.{snpArrays, SnpBytes, snpBytes, snpAt}
 
 -- the records of n SNPs from SNP j on, counted from 0
@@ -23,17 +22,6 @@ snpsAt b (suc n) j = do
   r ← snpAt b j
   rs ← snpsAt b n (j + 1)
   done (r ∷ rs)
-
--- the number of letters, and of those that are B; none where there is no call
-abbrev pub ploidy : Genotype → ℕ
-ploidy NoCall = 0
-ploidy Null = 0
-ploidy (Alleles p b) = p
-
-abbrev pub bAlleles : Genotype → ℕ
-bAlleles NoCall = 0
-bAlleles Null = 0
-bAlleles (Alleles p b) = b
 
 -- the records as numbers, eight for each
 abbrev pub allNumbers : List Snp → List ℕ

@@ -4,7 +4,7 @@ ghost use mathlib.Core.List.{List};
 ghost use Prim.Native.Nat.{ℕ, _≤_};
 ghost use Rattle.reading.specs.Check.{answer};
 ghost use Rattle.gtc.specs.declared.genotype.Genotype.the-variants.{Alleles};
-ghost use Rattle.gtc.specs.Genotype.{lettersFrom, meaning, decoding, decoded};
+ghost use Rattle.gtc.specs.Genotype.{lettersFrom, meaning, decoding, decoded, ploidy, bAlleles};
 
 // A genotype: not called (NC), null, or so many letters of which so many are B, the others A.
 pub enum Genotype {
@@ -75,4 +75,32 @@ pub fn genotype_of(code: u8) -> Decoded
         return Decoded::Refused(11);
     }
     Decoded::Is(meaning_of(code))
+}
+
+// The number of letters, 0 where there are none.
+pub fn ploidy_of(g: Genotype) -> u8
+    ensures { λ r. ⌜ r ≡ ploidy g ⌝ }
+{
+    match g {
+        Genotype::NoCall => 0,
+        Genotype::Null => 0,
+        Genotype::Alleles {
+            ploidy,
+            b_alleles: _,
+        } => ploidy,
+    }
+}
+
+// The number of letters that are B.
+pub fn b_alleles_of(g: Genotype) -> u8
+    ensures { λ r. ⌜ r ≡ bAlleles g ⌝ }
+{
+    match g {
+        Genotype::NoCall => 0,
+        Genotype::Null => 0,
+        Genotype::Alleles {
+            ploidy: _,
+            b_alleles,
+        } => b_alleles,
+    }
 }

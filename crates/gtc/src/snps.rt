@@ -1,6 +1,7 @@
 // The records of many SNPs at once.
-use crate::genotype::Genotype;
+use crate::genotype::b_alleles_of;
 use crate::genotype::meaning_of;
+use crate::genotype::ploidy_of;
 use crate::snp::ArraysFound;
 use crate::snp::SnpArrays;
 use crate::snp::elements;
@@ -19,38 +20,12 @@ ghost use Rattle.reading.specs.Check.{ok, answer, mapAnswer};
 ghost use Rattle.reading.specs.Lent.{filled};
 ghost use Rattle.gtc.specs.declared.snp.Snp.{Snp};
 ghost use Rattle.gtc.specs.Snp.{Present, snpAt};
-ghost use Rattle.gtc.specs.Snps.{snpsAt, ploidy, bAlleles, allNumbers, snpsOf, snpsReading, listed, broken, whether, Sized, Elements};
+ghost use Rattle.gtc.specs.Snps.{snpsAt, allNumbers, snpsOf, snpsReading, listed, broken, whether, Sized, Elements};
 
 // How many SNPs' records were written, or the refusal.
 pub enum Listed {
     Count(u64),
     Refused(u8),
-}
-
-fn ploidy_of(g: Genotype) -> u8
-    ensures { λ r. ⌜ r ≡ ploidy g ⌝ }
-{
-    match g {
-        Genotype::NoCall => 0,
-        Genotype::Null => 0,
-        Genotype::Alleles {
-            ploidy,
-            b_alleles: _,
-        } => ploidy,
-    }
-}
-
-fn b_alleles_of(g: Genotype) -> u8
-    ensures { λ r. ⌜ r ≡ bAlleles g ⌝ }
-{
-    match g {
-        Genotype::NoCall => 0,
-        Genotype::Null => 0,
-        Genotype::Alleles {
-            ploidy: _,
-            b_alleles,
-        } => b_alleles,
-    }
 }
 
 // The numbers at a place that is there. A part of a fixed length is read with no test of its length, so a loop over these is fast.

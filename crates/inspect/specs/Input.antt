@@ -7,11 +7,15 @@ use lib.ListN.{length}
 use Rattle.reading.specs.Choice.{pick}
 use Rattle.reading.specs.Number.{be}
 use Rattle.inspect.specs.declared.input.Input.{Input}
-use Rattle.inspect.specs.declared.input.Input.the-variants.{TooLong, Unknown, Abif, Sff}
+use Rattle.inspect.specs.declared.input.Input.the-variants.{TooLong, Unknown, Abif, Sff, Gtc}
 
--- what stands behind the marks "ABIF" and ".sff"
-abbrev pub marked : ℕ → Input
-marked n = pick (eqb n 0x41424946) Abif (pick (eqb n 0x2e736666) Sff Unknown)
+-- "ABIF", ".sff" or "gtc" at the front, else unknown
+abbrev pub marked : List ℕ → Input
+marked s =
+    pick (eqb (be 4 s 0) 0x41424946) Abif
+    (pick (eqb (be 4 s 0) 0x2e736666) Sff
+    (pick (eqb (be 3 s 0) 0x677463) Gtc
+    Unknown))
 
 abbrev pub inputOf : List ℕ → Input
-inputOf s = pick (leb (length s) 65536) (marked (be 4 s 0)) TooLong
+inputOf s = pick (leb (length s) 65536) (marked s) TooLong

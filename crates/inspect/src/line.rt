@@ -60,13 +60,18 @@ pub(crate) fn put_name(name: u32) {
     put(&text);
 }
 
-// A whole file's line.
-pub(crate) fn put_whole(format: &[u8], extent: usize, length: usize) {
+// What a whole file's line begins with in every format.
+pub(crate) fn put_extent(format: &[u8], extent: usize, length: usize) {
     put(format);
     put(b" whole ");
     put_number(extent as u64);
     put(b" of ");
     put_number(length as u64);
+}
+
+// A whole file's line, in a format that has no unjudged entries.
+pub(crate) fn put_whole(format: &[u8], extent: usize, length: usize) {
+    put_extent(format, extent, length);
     put(b"\n");
 }
 

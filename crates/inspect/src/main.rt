@@ -1,5 +1,6 @@
 // Tells of the file on standard input, in lines on standard output.
 mod abif_lines;
+mod gtc_lines;
 mod input;
 mod line;
 mod sff_lines;
@@ -15,6 +16,7 @@ fn report(s: &[u8]) {
         Input::Unknown => put(b"unknown\n"),
         Input::Abif => abif_lines::put_file(s),
         Input::Sff => sff_lines::put_file(s),
+        Input::Gtc => gtc_lines::put_file(s),
     }
 }
 

@@ -1,0 +1,208 @@
+// The GTC calls. SNPs and transformations count from one; a part is told by its start and length.
+use crate::answers::Item;
+use crate::answers::Listed;
+use crate::answers::Snp;
+use crate::answers::TransformationAnswer;
+use crate::answers::Verdict;
+use gtc::genotype::b_alleles_of;
+use gtc::genotype::ploidy_of;
+use gtc::judge;
+use gtc::lookup;
+use gtc::normalise;
+use gtc::normalise::Point;
+use gtc::snp;
+use gtc::snps;
+use gtc::transformation;
+use gtc::transformation::Transformation;
+ghost use mathlib.Core.Path.{_≡_};
+ghost use lib.ListN.{length};
+ghost use Rattle.reading.specs.Check.{answer, mapAnswer};
+ghost use Rattle.reading.specs.Lent.{filled};
+ghost use Rattle.gtc.specs.Judge.{judging, verdict};
+ghost use Rattle.gtc.specs.Lookup.{lookingUp, found};
+ghost use Rattle.gtc.specs.Snp.{snpReading, snpRead};
+ghost use Rattle.gtc.specs.Snps.{allNumbers, snpsReading, listed};
+ghost use Rattle.gtc.specs.Transformation.{transformationReading, transformationRead};
+ghost use Rattle.gtc.specs.Normalise.{normalised};
+ghost use Rattle.capi.specs.Answers.{asListed};
+ghost use Rattle.capi.specs.Gtc.{asJudged, asItem, toldSnp, refusedSnp, asSnp, noTransformation, asTransformation};
+
+fn as_judged(v: judge::Verdict) -> Verdict
+    ensures { λ r. ⌜ r ≡ asJudged (verdict v) ⌝ }
+{
+    match v {
+        judge::Verdict::Whole { extent, unjudged } => Verdict {
+            refusal: 0,
+            entry: 0,
+            extent: extent as u64,
+            unjudged: unjudged as u64,
+        },
+        judge::Verdict::Refused { number, entry } => Verdict {
+            refusal: number as u64,
+            entry: entry as u64,
+            extent: 0,
+            unjudged: 0,
+        },
+    }
+}
+
+#[no_mangle]
+pub extern "C" fn jt_gtc_judge(s: &[u8]) -> Verdict
+    ensures { λ r. ⌜ r ≡ asJudged (answer judging (now (s .entry))) ⌝ }
+{
+    as_judged(judge::judge(s))
+}
+
+fn as_item(f: lookup::Found) -> Item
+    ensures { λ r. ⌜ r ≡ asItem (found f) ⌝ }
+{
+    match f {
+        lookup::Found::Data(q) => Item {
+            refusal: 0,
+            code: q.id as u64,
+            count: q.count as u64,
+            start: q.start as u64,
+            length: q.size as u64,
+        },
+        lookup::Found::Refused(n) => Item {
+            refusal: n as u64,
+            code: 0,
+            count: 0,
+            start: 0,
+            length: 0,
+        },
+    }
+}
+
+#[no_mangle]
+pub extern "C" fn jt_gtc_lookup(s: &[u8], id: u16) -> Item
+    ensures { λ r. ⌜ r ≡ asItem (answer (lookingUp id) (now (s .entry))) ⌝ }
+{
+    as_item(lookup::lookup(s, id))
+}
+
+fn told_snp(r: snp::Snp) -> Snp
+    ensures { λ t. ⌜ t ≡ toldSnp r ⌝ }
+{
+    let g = r.genotype;
+    Snp {
+        refusal: 0,
+        code: r.code as u64,
+        ploidy: ploidy_of(g) as u64,
+        b_alleles: b_alleles_of(g) as u64,
+        call_1: r.call_1 as u64,
+        call_2: r.call_2 as u64,
+        score_bits: r.score_bits as u64,
+        x: r.x as u64,
+        y: r.y as u64,
+    }
+}
+
+fn refused_snp(refusal: u8) -> Snp
+    ensures { λ r. ⌜ r ≡ refusedSnp refusal ⌝ }
+{
+    Snp {
+        refusal: refusal as u64,
+        code: 0,
+        ploidy: 0,
+        b_alleles: 0,
+        call_1: 0,
+        call_2: 0,
+        score_bits: 0,
+        x: 0,
+        y: 0,
+    }
+}
+
+fn as_snp(r: snp::SnpRead) -> Snp
+    ensures { λ t. ⌜ t ≡ asSnp (snpRead r) ⌝ }
+{
+    match r {
+        snp::SnpRead::At(d) => told_snp(d),
+        snp::SnpRead::Refused(n) => refused_snp(n),
+    }
+}
+
+#[no_mangle]
+pub extern "C" fn jt_gtc_snp(s: &[u8], index: u64) -> Snp
+    ensures { λ r. ⌜ r ≡ asSnp (answer (snpReading index) (now (s .entry))) ⌝ }
+{
+    as_snp(snp::read_snp(s, index))
+}
+
+fn as_listed(n: snps::Listed) -> Listed
+    ensures { λ r. ⌜ r ≡ asListed (listed n) ⌝ }
+{
+    match n {
+        snps::Listed::Count(count) => Listed { refusal: 0, count },
+        snps::Listed::Refused(number) => Listed {
+            refusal: number as u64,
+            count: 0,
+        },
+    }
+}
+
+// Eight numbers for each SNP: the fields of its record behind `refusal`.
+#[no_mangle]
+pub extern "C" fn jt_gtc_snps(s: &[u8], first: u64, out: &mut [u64]) -> Listed
+    ensures { λ r. ⌜ r ≡ asListed (mapAnswer length (answer (snpsReading first (length (now (out .entry)))) (now (s .entry)))) ⌝ }
+    ensures { λ _. ⌜ now (out .exit) ≡ filled (mapAnswer allNumbers (answer (snpsReading first (length (now (out .entry)))) (now (s .entry)))) (now (out .entry)) ⌝ }
+{
+    as_listed(snps::read_snps(s, first, out))
+}
+
+// The transformation of a refusal.
+fn no_transformation() -> Transformation
+    ensures { λ r. ⌜ r ≡ noTransformation ⌝ }
+{
+    Transformation {
+        version: 0,
+        offset_x: 0.0,
+        offset_y: 0.0,
+        scale_x: 0.0,
+        scale_y: 0.0,
+        shear: 0.0,
+        theta: 0.0,
+        reserved_1: 0.0,
+        reserved_2: 0.0,
+        reserved_3: 0.0,
+        reserved_4: 0.0,
+        reserved_5: 0.0,
+        reserved_6: 0.0,
+    }
+}
+
+fn as_transformation(r: transformation::TransformationRead) -> TransformationAnswer
+    ensures { λ t. ⌜ t ≡ asTransformation (transformationRead r) ⌝ }
+{
+    match r {
+        transformation::TransformationRead::At { start: _, value } => TransformationAnswer {
+            refusal: 0,
+            value,
+        },
+        transformation::TransformationRead::Refused(n) => TransformationAnswer {
+            refusal: n as u64,
+            value: no_transformation(),
+        },
+    }
+}
+
+#[no_mangle]
+pub extern "C" fn jt_gtc_transformation(s: &[u8], k: u64) -> TransformationAnswer
+    ensures { λ r. ⌜ r ≡ asTransformation (answer (transformationReading k) (now (s .entry))) ⌝ }
+{
+    as_transformation(transformation::read_transformation(s, k))
+}
+
+#[no_mangle]
+pub extern "C" fn jt_gtc_normalise(
+    t: Transformation,
+    x: u16,
+    y: u16,
+    cos_theta: f32,
+    sin_theta: f32,
+) -> Point
+    ensures { λ r. ⌜ r ≡ normalised t x y «cos_theta» «sin_theta» ⌝ }
+{
+    normalise::normalise(t, x, y, cos_theta, sin_theta)
+}
