@@ -84,7 +84,7 @@ pub fn all_snps(file: &[u8]) {
 }
 
 /// Raw intensities of every SNP to points, against one loop that plain Rust may take several at a
-/// time in, and against a call for each.
+/// time in, and against a call for each, with the transformation by value.
 pub fn normalising(file: &[u8]) {
     let by = reader::transformation(file, 1).expect("the file has a transformation");
     let (cosine, sine) = (by.theta.cos(), by.theta.sin());
@@ -112,21 +112,27 @@ pub fn normalising(file: &[u8]) {
         },
     );
     compare_times(
-        "normalising, against a call for each point",
+        "normalising, against a C call for each point",
         ROUNDS,
         &mut library,
         || {
             let by = black_box(&by);
             for (point, [x, y]) in plain.iter_mut().zip(black_box(&raw)) {
-                *point = normalise_by_call(by, *x, *y, cosine, sine);
+                *point = normalise_by_value(*by, *x, *y, cosine, sine);
             }
         },
     );
     assert!(ours == plain);
 }
 
-// A call that the compiler does not take into the loop, as the C function's cannot be.
+// A call with the C function's arguments, which the compiler does not take into the loop either.
 #[inline(never)]
-fn normalise_by_call(by: &Transformation, x: u16, y: u16, cosine: f32, sine: f32) -> Point {
-    reader::normalise(by, x, y, cosine, sine).into()
+extern "C" fn normalise_by_value(
+    by: Transformation,
+    x: u16,
+    y: u16,
+    cosine: f32,
+    sine: f32,
+) -> Point {
+    reader::normalise(&by, x, y, cosine, sine).into()
 }

@@ -17,7 +17,7 @@ use Rattle.reading.proofs.Tests.{span, no}
 use Rattle.gtc.specs.declared.entry.Entry.{Entry}
 use Rattle.gtc.specs.declared.item.ItemData.{ItemData}
 use Rattle.gtc.specs.declared.snp.SnpArrays.{SnpArrays}
-use Rattle.gtc.specs.Table.{Table, tableEnd, headerCheck, table}
+use Rattle.gtc.specs.Table.{Table, tableEnd, markCheck, countCheck, table}
 use Rattle.gtc.specs.Entry.{entryPlace, entryOf, entryWith, idField}
 use Rattle.gtc.specs.Item.{listingOf, isListed, itemCheck, itemEnd}
 use Rattle.gtc.specs.Judge.{Extent, newId, idAmong, judgeEntry, judgeEntries, judgeTable, judging}
@@ -31,9 +31,13 @@ use Rattle.gtc.specs.Snps.{snpsAt, snpsOf, snpsReading}
 use Rattle.gtc.specs.Transformation.{transformationOf, transformationReading}
 use Rattle.gtc.proofs.snp.Laws.{looked}
 
-header-none : (a b c : ℕ) (s : List ℕ) → reach (headerCheck a b c) s ≡ 0
-unfolding headerCheck
-header-none a b c s = search (reach-none, reach-must) depth 12
+mark-none : (a b : ℕ) (s : List ℕ) → reach (markCheck a b) s ≡ 0
+unfolding markCheck
+mark-none a b s = search (reach-none, reach-must) depth 12
+
+count-none : (n : ℕ) (s : List ℕ) → reach (countCheck n) s ≡ 0
+unfolding countCheck
+count-none n s = search (reach-none, reach-must) depth 12
 
 table-reach : (s : List ℕ) (t : Table) → answer table s ≡ ok t → reach table s ≡ tableEnd (t .count)
 unfolding table
@@ -41,8 +45,9 @@ table-reach s t w =
     let b = bind-ok _ _ s t w in
     let c = bind-ok _ _ s t (b .2) in
     let d = bind-ok _ _ s t (c .2) in
-    let g = done-ok _ t s (d .2) in
-    simp (b .3, c .3, d .3, header-none, reach-need, reach-done, ← g) (omega arith)
+    let e = bind-ok _ _ s t (d .2) in
+    let g = done-ok _ t s (e .2) in
+    simp (b .3, c .3, d .3, e .3, mark-none, count-none, reach-need, reach-done, ← g) (omega arith)
 
 -- the checks of entry d as an item
 abbrev checksOf : List ℕ → ℕ → Entry → Check ItemData

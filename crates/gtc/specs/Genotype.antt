@@ -13,7 +13,7 @@ use Rattle.gtc.specs.declared.genotype.Decoded.the-variants.{Is, Refused
 abbrev pub codeOf : ℕ → ℕ → ℕ
 codeOf p b = p * (p + 1) / 2 + 1 + b
 
--- the letters of a code among those of p letters, of p + 1, and so on, n lengths in all
+-- the letters of a code among those of p letters, of p + 1, and so on, n lengths in all; codes past these are refused before
 unfoldable pub lettersFrom : ℕ → ℕ → ℕ → Genotype
 lettersFrom code p zero = Null
 lettersFrom code p (suc n) = pick (leb code (codeOf p p)) (Alleles p (code - codeOf p 0)) (lettersFrom code (p + 1) n)

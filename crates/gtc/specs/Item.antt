@@ -32,7 +32,8 @@ pub record Row : Type 0 where
 abbrev pub row : ℕ → Listing → Row
 row k v = record { id = k; listing = v }
 
--- Table 3
+-- Table 3. At its offset an id has a string (Text), an array with the width of its elements (Array, and SnpArray with one element for each SNP), the scanner data,
+-- or a block of so many bytes.
 abbrev pub rows : List Row
 rows =
     row 1 Value
@@ -166,7 +167,7 @@ shapedCheck k h n d = do
 abbrev pub valueData : Entry → ItemData
 valueData d = itemData d (d .place + 2) 4 4
 
--- the checks of entry d, whose id is listed so, in the table h of n entries
+-- the checks of entry d, whose id is listed so, in the table h of n entries; no call asks this of an unlisted id
 unfoldable pub itemCheck : Listing → List ℕ → ℕ → Entry → Check ItemData
 itemCheck (Shaped k) h n d = shapedCheck k h n d
 itemCheck Value h n d = done (valueData d)

@@ -25,7 +25,7 @@ idAmong h k (suc n) i = pick (hasId h k i) true (idAmong h k n (i + 1))
 abbrev pub newId : ℕ
 newId = 1
 
--- judging entry i, counted from 0, of n; d is that entry. It answers the end of the item; an entry whose id is not listed is not checked further.
+-- judging entry i, counted from 0, of n; d is that entry. It answers the end of the item, 0 for an entry whose id is not listed, which is not checked further.
 unfoldable pub judgeEntry : List ℕ → ℕ → ℕ → Entry → Check ℕ
 judgeEntry h n i d =
     pick (isListed (listingOf (d .id)))

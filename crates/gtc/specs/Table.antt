@@ -8,11 +8,15 @@ use Rattle.reading.specs.Check.{Check, Outcome, passed, failed, short, signedFi
 use Rattle.gtc.specs.declared.table.TableRead.{TableRead}
 use Rattle.gtc.specs.declared.table.TableRead.the-variants.{Good, Bad, Short}
 
--- the mark "gtc", lowest byte first, the version, and the number of entries
-unfoldable pub headerCheck : ℕ → ℕ → ℕ → Check (Unit {0})
-headerCheck mark version count = do
+-- the mark "gtc", lowest byte first, and the version
+unfoldable pub markCheck : ℕ → ℕ → Check (Unit {0})
+markCheck mark version = do
   must (unsignedField 3 0 mark) (Exactly 0x637467) 2
   must (unsignedField 1 3 version) (Exactly 5) 3
+
+-- the number of entries
+unfoldable pub countCheck : ℕ → Check (Unit {0})
+countCheck count = do
   must (signedField 4 4 count) NotNegative 4
   must (signedField 4 4 count) (AtMost 999) 5
 
@@ -29,11 +33,11 @@ pub record Table : Type 0 where
 unfoldable pub table : Check Table
 table = do
   h ← need 0 8
-  headerCheck (le 3 h 0) (le 1 h 3) (le 4 h 4)
+  markCheck (le 3 h 0) (le 1 h 3)
+  countCheck (le 4 h 4)
   l ← need 8 (tableEnd (le 4 h 4))
   done (record { count = le 4 h 4; upTo = l })
 
--- the number of entries
 unfoldable pub entryCount : Check ℕ
 entryCount = do
   t ← table

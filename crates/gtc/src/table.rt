@@ -12,7 +12,7 @@ ghost use Prim.Native.Nat.{ℕ};
 ghost use Rattle.reading.specs.Number.{le};
 ghost use Rattle.reading.specs.Check.{run};
 ghost use Rattle.reading.specs.Explain.{tested};
-ghost use Rattle.gtc.specs.Table.{headerCheck, entryCount, read};
+ghost use Rattle.gtc.specs.Table.{markCheck, countCheck, entryCount, read};
 
 // The number of entries; or the first test that fails, or the bytes that are missing, by their start and end.
 pub(crate) enum TableRead {
@@ -21,8 +21,8 @@ pub(crate) enum TableRead {
     Short(usize, usize),
 }
 
-fn header_tests(mark: u32, version: u8, count: u32) -> Tested
-    ensures { λ r. ⌜ ((l : List ℕ) → tested r ≡ run (headerCheck mark version count) l) ⌝ }
+fn mark_tests(mark: u32, version: u8) -> Tested
+    ensures { λ r. ⌜ ((l : List ℕ) → tested r ≡ run (markCheck mark version) l) ⌝ }
 {
     let first = Field {
         place: 0,
@@ -35,12 +35,6 @@ fn header_tests(mark: u32, version: u8, count: u32) -> Tested
         width: 1,
         sign: false,
         value: version as u64,
-    };
-    let entries = Field {
-        place: 4,
-        width: 4,
-        sign: true,
-        value: count as u64,
     };
     if mark != 0x637467 {
         return Tested::Failed(Test {
@@ -56,16 +50,28 @@ fn header_tests(mark: u32, version: u8, count: u32) -> Tested
             number: 3,
         });
     }
+    Tested::Passed
+}
+
+fn count_tests(count: u32) -> Tested
+    ensures { λ r. ⌜ ((l : List ℕ) → tested r ≡ run (countCheck count) l) ⌝ }
+{
+    let field = Field {
+        place: 4,
+        width: 4,
+        sign: true,
+        value: count as u64,
+    };
     if 0x8000_0000 <= count {
         return Tested::Failed(Test {
-            field: entries,
+            field,
             rule: Rule::NotNegative,
             number: 4,
         });
     }
     if 999 < count {
         return Tested::Failed(Test {
-            field: entries,
+            field,
             rule: Rule::AtMost(999),
             number: 5,
         });
@@ -90,7 +96,10 @@ pub(crate) fn read_table(s: &[u8]) -> TableRead
     let mark = mark_of(h);
     let version = byte(h, 3);
     let count = le32(h, 4);
-    if let Tested::Failed(t) = header_tests(mark, version, count) {
+    if let Tested::Failed(t) = mark_tests(mark, version) {
+        return TableRead::Bad(t);
+    }
+    if let Tested::Failed(t) = count_tests(count) {
         return TableRead::Bad(t);
     }
     let end = 8 + 6 * count as usize;

@@ -44,7 +44,7 @@ fn float_at(l: &[u8], p: usize) -> f32
 }
 
 fn transformation_at(l: &[u8], p: usize) -> Transformation
-    requires { ⌜ p < 0xffffffffffffff00 ⌝ }
+    requires { ⌜ p + 52 ≤ 0xffffffffffffffff ⌝ }
     ensures { λ r. ⌜ r ≡ transformationAt (now (l .entry)) p ⌝ }
 {
     Transformation {

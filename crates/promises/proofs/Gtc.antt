@@ -1,4 +1,4 @@
--- Demand 3 for GTC.
+-- Demand 3 for GTC, and the bulk call's records.
 -- Assumes nothing.
 use Prim.Native.Nat.{ℕ, _+_, _≤_}
 use mathlib.Core.Path.{_≡_}
@@ -9,9 +9,10 @@ use Rattle.reading.specs.Check.{ok, answer, reach}
 use Rattle.gtc.specs.Judge.{Extent, judging}
 use Rattle.gtc.proofs.Reach as Reach
 use Rattle.gtc.proofs.lookup.Laws.{lookup-within}
+use Rattle.gtc.proofs.snps.Numbered.{records-of}
 use Rattle.gtc.proofs.transformation.Laws.{reading-within}
 use Rattle.promises.specs.Demand3.{Holds}
-use Rattle.promises.specs.Gtc.{Call, judge, lookup, snp, snps, transformation, Answered, checks, span, gtc}
+use Rattle.promises.specs.Gtc.{Call, judge, lookup, snp, snps, transformation, Answered, checks, span, gtc, RecordsAreSnps}
 use Rattle.promises.proofs.Holds.{holds}
 
 fits : (c : Call) (s : List ℕ) (v : Answered c) → answer (checks c) s ≡ ok v → span c v .start + span c v .size ≤ length s
@@ -30,3 +31,8 @@ under (transformation k) s v w = Reach.transformation-under k s v w
 
 pub gtc-holds : Holds gtc
 gtc-holds = holds gtc (record { fits = fits; extent = Reach.extent; under = λ c s v w _. under c s v w })
+
+pub records-are-snps : RecordsAreSnps
+records-are-snps s first room rs w =
+    let g = records-of s first room rs w in
+    record { each = g .0; all = g .1 }

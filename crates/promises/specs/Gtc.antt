@@ -1,9 +1,10 @@
--- The reading calls of GTC.
+-- The reading calls of GTC, and what the bulk call's records are.
 -- Assumes nothing.
-use Prim.Native.Nat.{ℕ}
-use mathlib.Core.List.{List, []}
-use lib.ListN.{length}
-use Rattle.reading.specs.Check.{Check}
+use Prim.Native.Nat.{ℕ, _+_, _-_}
+use mathlib.Core.Path.{_≡_}
+use mathlib.Core.List.{List, [], _∷_}
+use lib.ListN.{length, drop}
+use Rattle.reading.specs.Check.{Check, ok, answer}
 use Rattle.reading.specs.Part.{Span}
 use Rattle.gtc.specs.declared.item.ItemData.{ItemData}
 use Rattle.gtc.specs.declared.snp.Snp.{Snp}
@@ -64,3 +65,12 @@ writes (transformation k) v = []
 
 abbrev pub gtc : Format
 gtc = record { Call = Call; Value = Answered; checks = checks; span = span; Item = λ _. ℕ; lent = lent; writes = writes; asks = λ _ _. Unit {0}; judging = judge; extent = λ v. v .extent }
+
+-- Record j of the bulk call, from 0, is that of SNP first + j, and there is a record for each SNP from number `first` on.
+pub record RecordsOfSnps (s : List ℕ) (first : ℕ) (rs : List Snp) : Type 0 where
+  pub each : (j : ℕ) (r : Snp) (l : List Snp) → drop j rs ≡ r ∷ l → answer (snpReading (first + j)) s ≡ ok r
+  pub all : (q : ItemData) → answer (lookingUp 1002) s ≡ ok q → length rs ≡ q .count - (first - 1)
+
+-- so it is of all records that the bulk call answers
+abbrev pub RecordsAreSnps : Type 0
+RecordsAreSnps = (s : List ℕ) (first room : ℕ) (rs : List Snp) → answer (snpsReading first room) s ≡ ok rs → RecordsOfSnps s first rs

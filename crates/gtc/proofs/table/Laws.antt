@@ -14,7 +14,7 @@ use Rattle.reading.proofs.Passed.{bind-ok, need-ok, done-ok, bind-refused, bind
 use Rattle.reading.proofs.Width.{byte-le, le-split}
 use Rattle.gtc.specs.declared.table.TableRead.{TableRead}
 use Rattle.gtc.specs.declared.table.TableRead.the-variants.{Good, Bad, Short}
-use Rattle.gtc.specs.Table.{Table, tableEnd, headerCheck, table, entryCount, read}
+use Rattle.gtc.specs.Table.{Table, tableEnd, markCheck, countCheck, table, entryCount, read}
 
 -- the mark, from its two lower bytes and its upper one
 pub mark-bytes : (h : List ℕ) (a b : ℕ) → a ≡ le 2 h 0 → b ≡ be 1 h 2 → a + 65536 * b ≡ le 3 h 0
@@ -22,12 +22,15 @@ mark-bytes h a b qa qb =
     let e : le 3 h 0 ≡ le 2 h 0 + le 1 h 2 * 65536 = le-split 2 1 h 0 in
     rw (e, qa, qb, byte-le h 2) (omega arith)
 
--- the number of entries that the header tells, and what its tests find
+-- the number of entries that the header tells, and what the two groups of tests find
 abbrev pub entries : List ℕ → ℕ
 entries s = le 4 (take 8 s) 4
 
-abbrev pub header : List ℕ → Outcome (Unit {0})
-header s = run (headerCheck (le 3 (take 8 s) 0) (le 1 (take 8 s) 3) (entries s)) s
+abbrev pub marked : List ℕ → Outcome (Unit {0})
+marked s = run (markCheck (le 3 (take 8 s) 0) (le 1 (take 8 s) 3)) s
+
+abbrev pub numbered : List ℕ → Outcome (Unit {0})
+numbered s = run (countCheck (entries s)) s
 
 module _ (s : List ℕ) where
   pub table-short : length s < 8 → short (record { start = 0; end = 8 }) 0 ≡ run entryCount s
@@ -35,17 +38,22 @@ module _ (s : List ℕ) where
   table-short h = simp (run-bind, run-need-absent 0 8 s h)
 
   module _ (h : 8 ≤ length s) where
-    pub table-header : (t : Test) → header s ≡ failed t 0 → failed t 0 ≡ run entryCount s
+    pub table-mark : (t : Test) → marked s ≡ failed t 0 → failed t 0 ≡ run entryCount s
     unfolding entryCount table
-    table-header t m = simp (run-need-present 0 8 s h, run-bind, m)
+    table-mark t m = simp (run-need-present 0 8 s h, run-bind, m)
 
-    pub table-cut : header s ≡ passed tt → length s < tableEnd (entries s) → short (record { start = 8; end = tableEnd (entries s) }) 0 ≡ run entryCount s
-    unfolding entryCount table
-    table-cut m l = simp (run-need-present 0 8 s h, run-bind, m, run-need-absent 8 (tableEnd (entries s)) s l, run-done)
+    module _ (m : marked s ≡ passed tt) where
+      pub table-count : (t : Test) → numbered s ≡ failed t 0 → failed t 0 ≡ run entryCount s
+      unfolding entryCount table
+      table-count t k = simp (run-need-present 0 8 s h, run-bind, m, k)
 
-    pub table-good : header s ≡ passed tt → tableEnd (entries s) ≤ length s → passed (entries s) ≡ run entryCount s
-    unfolding entryCount table
-    table-good m l = simp (run-need-present 0 8 s h, run-bind, m, run-need-present 8 (tableEnd (entries s)) s l, run-done)
+      pub table-cut : numbered s ≡ passed tt → length s < tableEnd (entries s) → short (record { start = 8; end = tableEnd (entries s) }) 0 ≡ run entryCount s
+      unfolding entryCount table
+      table-cut k l = simp (run-need-present 0 8 s h, run-bind, m, k, run-need-absent 8 (tableEnd (entries s)) s l, run-done)
+
+      pub table-good : numbered s ≡ passed tt → tableEnd (entries s) ≤ length s → passed (entries s) ≡ run entryCount s
+      unfolding entryCount table
+      table-good k l = simp (run-need-present 0 8 s h, run-bind, m, k, run-need-present 8 (tableEnd (entries s)) s l, run-done)
 
 -- a table of n entries that the file s begins with
 abbrev pub tableIn : List ℕ → ℕ → Table
@@ -64,7 +72,8 @@ table-found s t w =
     let b = bind-ok _ _ s t w in
     let c = bind-ok _ _ s t (b .2) in
     let d = bind-ok _ _ s t (c .2) in
-    close s (d .0) _ (t .count) t (done-ok _ _ s (d .2)) refl (need-ok _ _ s (d .0) (d .1))
+    let e = bind-ok _ _ s t (d .2) in
+    close s (e .0) _ (t .count) t (done-ok _ _ s (e .2)) refl (need-ok _ _ s (e .0) (e .1))
 
 pub table-at : (s : List ℕ) (n : ℕ) → answer entryCount s ≡ ok n → (tableEnd n ≤ length s) × (answer table s ≡ ok (tableIn s n))
 unfolding entryCount

@@ -4,7 +4,7 @@ use Rattle.gtc.proofs.table.read_table.Tie as tie
 use native.Mathlib.Omega.{arith}
 use lib.ListN.{length-take}
 use Rattle.reading.proofs.Width.{byte-le}
-use Rattle.gtc.proofs.table.Laws.{table-short, table-header, table-cut, table-good}
+use Rattle.gtc.proofs.table.Laws.{table-short, table-mark, table-count, table-cut, table-good}
 
 returns : tie.Need-returns
 returns c = table-short _ (c .if1 .taken)
@@ -21,8 +21,8 @@ byte-requires c κs = search needs
 le32-requires : tie.Need-le32-requires
 le32-requires c κs = search needs
 
-header-tests-requires : tie.Need-header-tests-requires
-header-tests-requires c κs = search needs
+mark-tests-requires : tie.Need-mark-tests-requires
+mark-tests-requires c κs = search needs
 
 enum-known-t : tie.Need-enum-known-t
 enum-known-t c = search needs
@@ -32,10 +32,27 @@ returns-2 c =
     let t = c .before .before .before in
     let a = t .before in
     let s = a .before .before .before .before .before .before .args .s .now in
-    table-header s (a .before .before .before .before .if1 .left) _ (rw (← a .before .before .mark-of .ensures, ← byte-le, ← a .before .byte .ensures, ← a .le32 .ensures, ← t .header-tests .ensures s, c .before .t .given .1))
+    table-mark s (a .before .before .before .before .if1 .left) _ (rw (← a .before .before .mark-of .ensures, ← byte-le, ← a .before .byte .ensures, ← t .mark-tests .ensures s, c .before .t .given .1))
 
 enum-told : tie.Need-enum-told
 enum-told c = search needs
+
+count-tests-requires : tie.Need-count-tests-requires
+count-tests-requires c κs = search needs
+
+enum-known-t-2 : tie.Need-enum-known-t-2
+enum-known-t-2 c = search needs
+
+returns-3 : tie.Need-returns-3
+returns-3 c =
+    let k = c .before .before .before in
+    let t = k .before .before .before in
+    let a = t .before in
+    let s = a .before .before .before .before .before .before .args .s .now in
+    table-count s (a .before .before .before .before .if1 .left) (rw (← a .before .before .mark-of .ensures, ← byte-le, ← a .before .byte .ensures, ← t .mark-tests .ensures s, k .before .enum-told .given .1)) _ (rw (← a .le32 .ensures, ← k .count-tests .ensures s, c .before .t2 .given .1))
+
+enum-told-2 : tie.Need-enum-told-2
+enum-told-2 c = search needs
 
 cast-end : tie.Need-cast-end
 cast-end c = search needs
@@ -46,19 +63,21 @@ mul-end c = search needs
 add-end : tie.Need-add-end
 add-end c = search needs
 
-returns-3 : tie.Need-returns-3
-returns-3 c =
-    let t = c .before .before .before in
-    let a = t .before in
-    let s = a .before .before .before .before .before .before .args .s .now in
-    rw (a .le32 .ensures) (table-cut s (a .before .before .before .before .if1 .left) (rw (← a .before .before .mark-of .ensures, ← byte-le, ← a .before .byte .ensures, ← a .le32 .ensures, ← t .header-tests .ensures s, c .before .enum-told .given .1)) (rw (← a .le32 .ensures) (c .if2 .taken)))
-
 returns-4 : tie.Need-returns-4
 returns-4 c =
-    let t = c .before .before .before in
+    let k = c .before .before .before in
+    let t = k .before .before .before in
     let a = t .before in
     let s = a .before .before .before .before .before .before .args .s .now in
-    rw (a .le32 .ensures) (table-good s (a .before .before .before .before .if1 .left) (rw (← a .before .before .mark-of .ensures, ← byte-le, ← a .before .byte .ensures, ← a .le32 .ensures, ← t .header-tests .ensures s, c .before .enum-told .given .1)) (rw (← a .le32 .ensures) (c .if2 .left)))
+    rw (a .le32 .ensures) (table-cut s (a .before .before .before .before .if1 .left) (rw (← a .before .before .mark-of .ensures, ← byte-le, ← a .before .byte .ensures, ← t .mark-tests .ensures s, k .before .enum-told .given .1)) (rw (← a .le32 .ensures, ← k .count-tests .ensures s, c .before .enum-told2 .given .1)) (rw (← a .le32 .ensures) (c .if2 .taken)))
+
+returns-5 : tie.Need-returns-5
+returns-5 c =
+    let k = c .before .before .before in
+    let t = k .before .before .before in
+    let a = t .before in
+    let s = a .before .before .before .before .before .before .args .s .now in
+    rw (a .le32 .ensures) (table-good s (a .before .before .before .before .if1 .left) (rw (← a .before .before .mark-of .ensures, ← byte-le, ← a .before .byte .ensures, ← t .mark-tests .ensures s, k .before .enum-told .given .1)) (rw (← a .le32 .ensures, ← k .count-tests .ensures s, c .before .enum-told2 .given .1)) (rw (← a .le32 .ensures) (c .if2 .left)))
 
 pub read-table-spec : {M : Type 1} → statement M
 read-table-spec =
@@ -69,12 +88,16 @@ read-table-spec =
     mark-of-requires
     byte-requires
     le32-requires
-    header-tests-requires
+    mark-tests-requires
     enum-known-t
     returns-2
     enum-told
+    count-tests-requires
+    enum-known-t-2
+    returns-3
+    enum-told-2
     cast-end
     mul-end
     add-end
-    returns-3
-    returns-4)
+    returns-4
+    returns-5)
