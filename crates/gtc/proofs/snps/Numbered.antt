@@ -1,7 +1,7 @@
 -- Record j of the bulk call is that of SNP first + j.
 -- Assumes nothing.
 use Prim.Native.Nat.{ℕ, zero, suc, _+_, _-_}
-use mathlib.Core.Path.{_≡_, refl, sym, _∙_, ap, subst}
+use mathlib.Core.Path.{_≡_, sym, _∙_, ap, subst}
 use mathlib.Core.List.{List, [], _∷_}
 use mathlib.Core.Bool.{true}
 use native.Mathlib.Omega.{arith}
@@ -18,24 +18,21 @@ use Rattle.gtc.specs.Lookup.{lookingUp}
 use Rattle.gtc.specs.Snp.{snpArrays, SnpBytes, snpBytes, snpAt, snpOf, snpReading}
 use Rattle.gtc.specs.Snps.{snpsAt, left, snpsOf, snpsReading}
 use Rattle.gtc.proofs.snp.Laws.{looked}
+use Rattle.gtc.proofs.snps.Laws.{length-snps}
 
--- as many records as were asked for, each that of its SNP
-each-record : (s : List ℕ) (b : SnpBytes) (n j : ℕ) (rs : List Snp) → answer (snpsAt b n j) s ≡ ok rs → (length rs ≡ n) × ((i : ℕ) (r : Snp) (l : List Snp) → drop i rs ≡ r ∷ l → answer (snpAt b (j + i)) s ≡ ok r)
+-- each record is that of its SNP
+each-record : (s : List ℕ) (b : SnpBytes) (n j : ℕ) (rs : List Snp) → answer (snpsAt b n j) s ≡ ok rs → (i : ℕ) (r : Snp) (l : List Snp) → drop i rs ≡ r ∷ l → answer (snpAt b (j + i)) s ≡ ok r
 unfolding snpsAt
-each-record s b zero j rs w = subst (λ (x : List Snp). (length x ≡ 0) × ((i : ℕ) (r : Snp) (l : List Snp) → drop i x ≡ r ∷ l → answer (snpAt b (j + i)) s ≡ ok r)) (done-ok [] rs s w) (refl, λ i r l e. absurd (none i r l e))
-  where
-    none : (i : ℕ) (r : Snp) (l : List Snp) → drop i [] ≡ r ∷ l → ⊥
-    none i r l e =
-        let n : List Snp = [] in
-        let h : length (drop i n) ≡ 0 - i = length-drop i n in
-        let k : length (drop i n) ≡ suc (length l) = ap length e in
-        omega arith
-each-record s b (suc n) j rs w =
+each-record s b zero j rs w i r l e =
+    let n : length rs ≡ 0 = ap length (sym (done-ok [] rs s w)) in
+    let h : length (drop i rs) ≡ length rs - i = length-drop i rs in
+    let k : length (drop i rs) ≡ suc (length l) = ap length e in
+    absurd (omega arith)
+each-record s b (suc n) j rs w i r l e =
     let a = bind-ok (snpAt b j) _ s rs w in
     let c = bind-ok (snpsAt b n (j + 1)) _ s rs (a .2) in
-    let f = each-record s b n (j + 1) (c .0) (c .1) in
-    subst (λ (x : List Snp). (length x ≡ suc n) × ((i : ℕ) (r : Snp) (l : List Snp) → drop i x ≡ r ∷ l → answer (snpAt b (j + i)) s ≡ ok r)) (done-ok (a .0 ∷ c .0) rs s (c .2))
-    (ap suc (f .0), next (a .0) (c .0) (a .1) (f .1))
+    subst (λ (x : List Snp). (i : ℕ) (r : Snp) (l : List Snp) → drop i x ≡ r ∷ l → answer (snpAt b (j + i)) s ≡ ok r) (done-ok (a .0 ∷ c .0) rs s (c .2))
+    (next (a .0) (c .0) (a .1) (each-record s b n (j + 1) (c .0) (c .1))) i r l e
   where
     next : (x : Snp) (xs : List Snp) → answer (snpAt b j) s ≡ ok x → ((i : ℕ) (r : Snp) (l : List Snp) → drop i xs ≡ r ∷ l → answer (snpAt b (j + 1 + i)) s ≡ ok r) → (i : ℕ) (r : Snp) (l : List Snp) → drop i (x ∷ xs) ≡ r ∷ l → answer (snpAt b (j + i)) s ≡ ok r
     next x xs e f zero r l q =
@@ -54,8 +51,7 @@ records-of s first room rs w =
     let d = bind-ok _ _ s rs (c .2) in
     let z : c .0 ≡ rs = done-ok _ rs s (d .2) in
     let n = number-within first (a .0 .genotypes .count) (must-ok _ _ _ s (p .0) (p .1)) in
-    let f = each-record s (b .0) (left (a .0) first) (first - 1) (c .0) (c .1) in
-    let g : length rs ≡ left (a .0) first = ap length (sym z) ∙ f .0 in (
+    let g : length rs ≡ left (a .0) first = ap length (sym z) ∙ length-snps (b .0) (left (a .0) first) (first - 1) (c .0) s (c .1) in (
       λ j r l e.
           let h : length (drop j rs) ≡ length rs - j = length-drop j rs in
           let k : length (drop j rs) ≡ suc (length l) = ap length e in
@@ -64,6 +60,6 @@ records-of s first room rs w =
           ∙ sym (bind-answered (provided (isNumberOf (first + j) (a .0 .genotypes .count)) 12) _ s tt (simp (answer-must, i)))
           ∙ sym (bind-answered (snpBytes (a .0)) _ s (b .0) (b .1))
           ∙ ap (λ (x : ℕ). answer (snpAt (b .0) x) s) (omega arith)
-          ∙ f .1 j r l (ap (drop j) z ∙ e),
+          ∙ each-record s (b .0) (left (a .0) first) (first - 1) (c .0) (c .1) j r l (ap (drop j) z ∙ e),
       λ q e. g ∙ ap (λ (x : ItemData). x .count - (first - 1)) (ok-inj (sym (looked s (a .0) (a .1) .genotypes) ∙ e)),
     )
