@@ -59,7 +59,7 @@ unfolding judgeEntry
 entry-end h n i d s y w = go (isListed (listingOf (d .id))) w
   where
     listed : Check ℕ
-    listed = must (idField d) (Other newId (not (idAmong h (d .id) i 0))) 8 >> (itemCheck (listingOf (d .id)) h n d >>= (λ q. done (itemEnd q)))
+    listed = must (idField d) (Other newId (not (idAmong h (d .id) i))) 8 >> (itemCheck (listingOf (d .id)) h n d >>= (λ q. done (itemEnd q)))
 
     go : (b : Bool) → answer (pick b listed (done 0)) s ≡ ok y → (max (d .place + 6) (reach (pick b listed (done 0)) s) ≡ max (d .place + 6) y) × (b ≡ true → reach (itemCheck (listingOf (d .id)) h n d) s ≤ max (d .place + 6) y)
     go true v =

@@ -2,7 +2,8 @@
 -- Assumes nothing.
 use Prim.Native.Nat.{ℕ, zero, suc, _+_, max}
 use mathlib.Core.List.{List}
-use mathlib.Core.Bool.{Bool, true, false, not}
+use mathlib.Core.Bool.{Bool, not}
+use lib.Dec.{ltb}
 use Rattle.reading.specs.Choice.{pick}
 use Rattle.reading.specs.Number.{le}
 use Rattle.reading.specs.declared.check.Rule.the-variants.{Other}
@@ -13,13 +14,12 @@ use Rattle.gtc.specs.declared.judge.Verdict.the-variants.{Whole, Refused
 use Rattle.gtc.specs.declared.judge.Judged as Judged
 use Rattle.gtc.specs.declared.judge.Judged.the-variants as judged
 use Rattle.gtc.specs.Table.{table, tableEnd}
-use Rattle.gtc.specs.Entry.{entryOf, entryPlace, idField, hasId}
+use Rattle.gtc.specs.Entry.{entryOf, entryPlace, idField, firstId}
 use Rattle.gtc.specs.Item.{listingOf, isListed, itemCheck, itemEnd}
 
--- one of the n entries from entry i on has the id k
-unfoldable pub idAmong : List ℕ → ℕ → ℕ → ℕ → Bool
-idAmong h k zero i = false
-idAmong h k (suc n) i = pick (hasId h k i) true (idAmong h k n (i + 1))
+-- one of the first n entries has the id k
+abbrev pub idAmong : List ℕ → ℕ → ℕ → Bool
+idAmong h k n = ltb (firstId h k n 0) n
 
 -- the requirement that is no comparison with a number: an id that no earlier entry has
 abbrev pub newId : ℕ
@@ -30,7 +30,7 @@ unfoldable pub judgeEntry : List ℕ → ℕ → ℕ → Entry → Check ℕ
 judgeEntry h n i d =
     pick (isListed (listingOf (d .id)))
     (do
-      must (idField d) (Other newId (not (idAmong h (d .id) i 0))) 8
+      must (idField d) (Other newId (not (idAmong h (d .id) i))) 8
       q ← itemCheck (listingOf (d .id)) h n d
       done (itemEnd q))
     (done 0)

@@ -114,13 +114,13 @@ snpReading i = do
   snpOf a i
 
 -- the answer of document 01 that each case stands for
-abbrev pub called : Calls → Answer (ItemData × ItemData × ItemData)
-called (calls.At g b s) = ok (g, b, s)
-called (calls.Refused n) = refused n 0
+abbrev pub callsFound : Calls → Answer (ItemData × ItemData × ItemData)
+callsFound (calls.At g b s) = ok (g, b, s)
+callsFound (calls.Refused n) = refused n 0
 
-abbrev pub intense : Intensities → Answer (ItemData × ItemData)
-intense (intensities.At x y) = ok (x, y)
-intense (intensities.Refused n) = refused n 0
+abbrev pub intensitiesFound : Intensities → Answer (ItemData × ItemData)
+intensitiesFound (intensities.At x y) = ok (x, y)
+intensitiesFound (intensities.Refused n) = refused n 0
 
 abbrev pub arraysFound : ArraysFound → Answer SnpArrays
 arraysFound (arrays.At a) = ok a

@@ -39,14 +39,15 @@ pub(crate) fn entry_at(h: &[u8], i: usize) -> Entry
 }
 
 // Entry i has this id.
-pub(crate) fn has_id(h: &[u8], id: u16, i: usize) -> bool
+fn has_id(h: &[u8], id: u16, i: usize) -> bool
     requires { ⌜ tableEnd (i + 1) ≤ length (now h) ⌝ }
     ensures { λ r. ⌜ r ≡ hasId (now (h .entry)) id i ⌝ }
 {
     le16(h, 8 + 6 * i) == id
 }
 
-fn first_id(h: &[u8], id: u16, from: usize, n: usize) -> usize
+// The first entry with this id from entry `from` on, or n.
+pub(crate) fn first_id(h: &[u8], id: u16, from: usize, n: usize) -> usize
     requires { ⌜ (tableEnd n ≤ length (now h)) × (from ≤ n) ⌝ }
     ensures { λ r. ⌜ (r ≡ firstId (now (h .entry)) id (n - from) from) × (r ≤ n) ⌝ }
 {

@@ -1,6 +1,6 @@
 // Judging.
 use crate::entry::entry_at;
-use crate::entry::has_id;
+use crate::entry::first_id;
 use crate::item::Item;
 use crate::item::is_listed;
 use crate::item::item_tests;
@@ -40,16 +40,9 @@ pub(crate) enum Judged {
 // One of the first n entries has this id.
 fn id_among(h: &[u8], id: u16, n: usize) -> bool
     requires { ⌜ tableEnd n ≤ length (now h) ⌝ }
-    ensures { λ r. ⌜ r ≡ idAmong (now (h .entry)) id n 0 ⌝ }
+    ensures { λ r. ⌜ r ≡ idAmong (now (h .entry)) id n ⌝ }
 {
-    let mut i = 0;
-    while i < n {
-        if has_id(h, id, i) {
-            return true;
-        }
-        i += 1;
-    }
-    false
+    first_id(h, id, 0, n) < n
 }
 
 fn judge_entry(s: &[u8], h: &[u8], n: usize, i: usize) -> Judged

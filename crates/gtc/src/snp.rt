@@ -13,7 +13,7 @@ ghost use mathlib.Core.List.{List};
 ghost use Prim.Native.Nat.{ℕ, _+_, _≤_, _<_};
 ghost use lib.ListN.{length};
 ghost use Rattle.reading.specs.Check.{answer};
-ghost use Rattle.gtc.specs.Snp.{callArrays, intensityArrays, snpArrays, isBaseCall, elementsIn, snpAt, snpOf, snpReading, called, intense, arraysFound, snpRead, Present};
+ghost use Rattle.gtc.specs.Snp.{callArrays, intensityArrays, snpArrays, isBaseCall, elementsIn, snpAt, snpOf, snpReading, callsFound, intensitiesFound, arraysFound, snpRead, Present};
 
 // A SNP's record: the genotype's code and meaning, the two letters of the base call, the score with its bits, and the intensities.
 pub struct Snp {
@@ -60,7 +60,7 @@ pub(crate) enum ArraysFound {
 }
 
 fn call_arrays(s: &[u8]) -> Calls
-    ensures { λ r. ⌜ called r ≡ answer callArrays (now (s .entry)) ⌝ }
+    ensures { λ r. ⌜ callsFound r ≡ answer callArrays (now (s .entry)) ⌝ }
 {
     match lookup(s, 1002) {
         Found::Refused(n) => Calls::Refused(n),
@@ -75,7 +75,7 @@ fn call_arrays(s: &[u8]) -> Calls
 }
 
 fn intensity_arrays(s: &[u8]) -> Intensities
-    ensures { λ r. ⌜ intense r ≡ answer intensityArrays (now (s .entry)) ⌝ }
+    ensures { λ r. ⌜ intensitiesFound r ≡ answer intensityArrays (now (s .entry)) ⌝ }
 {
     match lookup(s, 1000) {
         Found::Refused(n) => Intensities::Refused(n),

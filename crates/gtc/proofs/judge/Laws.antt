@@ -23,18 +23,9 @@ use Rattle.gtc.specs.declared.item.ItemData.{ItemData}
 use Rattle.gtc.specs.declared.judge.Judged.{Judged}
 use Rattle.gtc.specs.declared.judge.Judged.the-variants.{End, Bad, Short}
 use Rattle.gtc.specs.Table.{tableEnd}
-use Rattle.gtc.specs.Entry.{entryPlace, entryOf, hasId, idField}
+use Rattle.gtc.specs.Entry.{entryPlace, entryOf, idField}
 use Rattle.gtc.specs.Item.{listingOf, isListed, itemCheck, itemEnd, item}
 use Rattle.gtc.specs.Judge.{idAmong, newId, judgeEntry, judgeEntries, unjudgedAmong, judgeTable, judgedEntry}
-
-module _ (h : List ℕ) (k i : ℕ) (r : Bool) (q : r ≡ hasId h k i) (m : ℕ) where
-  pub id-here : r ≡ true → idAmong h k (suc m) i ≡ true
-  unfolding idAmong
-  id-here t = rw (← q, t)
-
-  pub id-on : r ≡ false → idAmong h k (suc m) i ≡ idAmong h k m (i + 1)
-  unfolding idAmong
-  id-on t = rw (← q, t)
 
 -- one entry more is counted
 pub unjudged-on : (h : List ℕ) (u v i m : ℕ) → v ≡ pick (isListed (listingOf (le 2 h (entryPlace i)))) 0 1 → u + unjudgedAmong h (suc m) i ≡ u + v + unjudgedAmong h m (i + 1)
@@ -46,7 +37,7 @@ module _ (s h : List ℕ) (n i : ℕ) (d : Entry) (e : d ≡ entryOf h (entryPla
   unfolding judgeEntry
   entry-unlisted f = simp (← e, ← ql, f, run-done)
 
-  module _ (f : l ≡ true) (t : Bool) (qt : t ≡ idAmong h (d .id) i 0) where
+  module _ (f : l ≡ true) (t : Bool) (qt : t ≡ idAmong h (d .id) i) where
     pub entry-twice : t ≡ true → failed (record { field = idField d; rule = Other newId false; number = 8 }) 0 ≡ run (judgeEntry h n i (entryOf h (entryPlace i))) s
     unfolding judgeEntry holds
     entry-twice g = simp (← e, ← ql, f, run-bind, run-must, ← qt, g)

@@ -3,7 +3,7 @@ use Rattle.gtc.proofs.snp.snp_arrays.Statement.{statement}
 use Rattle.gtc.proofs.snp.snp_arrays.Tie as tie
 use mathlib.Core.Path.{_∙_, sym, ap}
 use Rattle.reading.proofs.Steps.{answer-bind, answer-done}
-use Rattle.gtc.specs.Snp.{snpArrays, called, intense}
+use Rattle.gtc.specs.Snp.{snpArrays, callsFound, intensitiesFound}
 
 call-arrays-requires : tie.Need-call-arrays-requires
 call-arrays-requires c κs = search needs
@@ -26,21 +26,21 @@ enum-known-x c = search needs
 returns : tie.Need-returns
 unfolding snpArrays
 returns c =
-    let a = sym (c .before .before .before .call-arrays .ensures) ∙ ap called (c .before .n .given .1) in
+    let a = sym (c .before .before .before .call-arrays .ensures) ∙ ap callsFound (c .before .n .given .1) in
     simp (answer-bind, a)
 
 returns-2 : tie.Need-returns-2
 unfolding snpArrays
 returns-2 c =
-    let a = sym (c .before .before .before .before .before .before .before .call-arrays .ensures) ∙ ap called (c .before .before .before .before .before .genotypes .given .1) in
-    let i = sym (c .before .before .before .intensity-arrays .ensures) ∙ ap intense (c .before .n2 .given .1) in
+    let a = sym (c .before .before .before .before .before .before .before .call-arrays .ensures) ∙ ap callsFound (c .before .before .before .before .before .genotypes .given .1) in
+    let i = sym (c .before .before .before .intensity-arrays .ensures) ∙ ap intensitiesFound (c .before .n2 .given .1) in
     simp (answer-bind, a, i)
 
 returns-3 : tie.Need-returns-3
 unfolding snpArrays
 returns-3 c =
-    let a = sym (c .before .before .before .before .before .before .before .call-arrays .ensures) ∙ ap called (c .before .before .before .before .before .genotypes .given .1) in
-    let i = sym (c .before .before .before .intensity-arrays .ensures) ∙ ap intense (c .before .x .given .1) in
+    let a = sym (c .before .before .before .before .before .before .before .call-arrays .ensures) ∙ ap callsFound (c .before .before .before .before .before .genotypes .given .1) in
+    let i = sym (c .before .before .before .intensity-arrays .ensures) ∙ ap intensitiesFound (c .before .x .given .1) in
     simp (answer-bind, answer-done, a, i)
 
 pub snp-arrays-spec : {M : Type 1} → statement M
