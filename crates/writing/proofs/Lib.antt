@@ -1,0 +1,4 @@
+pub mod Over
+pub mod Digits
+pub mod Begun
+pub mod Words

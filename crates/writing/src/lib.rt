@@ -1,0 +1,3 @@
+// What the writers share: numbers, copies and zeros written over a part of a lent output.
+pub mod bytes;
+pub mod number;
