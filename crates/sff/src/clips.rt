@@ -8,7 +8,7 @@ ghost use Rattle.reading.specs.Check.{answer, ok, refused};
 ghost use Rattle.sff.specs.Clips.{clipsCheck, firstBase, lastBase, rightClip};
 
 // No clip is above the bases.
-pub(crate) fn clips_hold(d: ReadHeader) -> bool
+pub fn clips_hold(d: ReadHeader) -> bool
     ensures { λ r. ⌜ ((l : List ℕ) → pick r (ok tt) (refused 11 0) ≡ answer (clipsCheck d) l) ⌝ }
 {
     if d.bases < d.quality_left as u32 {

@@ -1,12 +1,12 @@
 // SFF files over lent bytes: judging, the header, and reads by number or by place.
-pub(crate) mod clips;
+pub mod clips;
 pub mod flow;
 pub mod header;
 pub mod judge;
 pub mod lookup;
-pub(crate) mod padding;
+pub mod padding;
 pub mod places;
 pub mod position;
-pub(crate) mod read;
-pub(crate) mod steps;
+pub mod read;
+pub mod steps;
 pub(crate) mod walk;

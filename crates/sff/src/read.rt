@@ -12,7 +12,7 @@ ghost use Rattle.reading.specs.Check.{run};
 ghost use Rattle.sff.specs.Read.{readHeaderOf, framing, framed};
 
 // The fields of a read's header, and where the read starts.
-pub(crate) struct ReadHeader {
+pub struct ReadHeader {
     pub start: usize,
     pub header_length: u16,
     pub name_length: u16,

@@ -3,6 +3,7 @@ use reading::number::byte;
 ghost use mathlib.Core.Path.{_≡_};
 ghost use mathlib.Core.List.{List};
 ghost use Prim.Native.Nat.{ℕ, _+_, _≤_, _<_};
+ghost use lib.Dec.{leb};
 ghost use lib.ListN.{length};
 ghost use Rattle.reading.specs.Choice.{pick};
 ghost use Rattle.reading.specs.Check.{answer, ok, refused};
@@ -54,9 +55,27 @@ pub(crate) fn sum_of(steps: &[u8]) -> u64
     sum
 }
 
+// The sum of the steps is not past the flows.
+fn sum_within(flows: u16, steps: &[u8]) -> bool
+    ensures { λ r. ⌜ r ≡ leb (stepSum (now (steps .entry)) 0 (length (now (steps .entry)))) flows ⌝ }
+{
+    let most = flows as u64;
+    let n = steps.len();
+    let mut sum = 0;
+    let mut at = 0;
+    while at < n {
+        let end = chunk_end(at, n);
+        sum += chunk_sum(&steps[at..end]) as u64;
+        if most < sum {
+            return false;
+        }
+        at = end;
+    }
+    true
+}
+
 // The first step is at least 1, and no running sum passes the flows: sums never fall, so the last one tells.
-pub(crate) fn steps_hold(flows: u16, steps: &[u8]) -> bool
-    requires { ⌜ length (now steps) < 0x100000000 ⌝ }
+pub fn steps_hold(flows: u16, steps: &[u8]) -> bool
     ensures { λ r. ⌜ ((l : List ℕ) → pick r (ok tt) (refused 11 0) ≡ answer (stepsCheck flows (now (steps .entry)) 0 (length (now (steps .entry)))) l) ⌝ }
 {
     if steps.len() == 0 {
@@ -65,5 +84,5 @@ pub(crate) fn steps_hold(flows: u16, steps: &[u8]) -> bool
     if byte(steps, 0) < 1 {
         return false;
     }
-    sum_of(steps) <= flows as u64
+    sum_within(flows, steps)
 }

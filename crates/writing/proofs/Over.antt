@@ -56,6 +56,13 @@ put-put l p v u h =
     put-room (put l p v) (p + length v) u c ∙ rw (take-put l p v a, d, put-room l p (v ++ u) b) (simp append-assoc)
 
 -- the stores of a number's bytes
+pub put1 : (l : List ℕ) (p n : ℕ) → p < length l → n < 256 → set l p n ≡ put l p (digits 1 n)
+unfolding digits
+put1 l p n h k =
+    let e : n / 1 % 256 ≡ n = omega arith in
+    let q : p + 1 ≤ length l = omega arith in
+    ap (set l p) (sym e) ∙ sets-put l p (digits 1 n) q
+
 pub put2 : (l : List ℕ) (p n a b : ℕ) → p + 2 ≤ length l → a ≡ n / 256 % 256 → b ≡ n % 256 → set (set l p a) (p + 1) b ≡ put l p (digits 2 n)
 unfolding digits
 put2 l p n a b h qa qb =

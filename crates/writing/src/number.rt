@@ -16,6 +16,16 @@ fn low_of(x: u16) -> u8
     (x % 256) as u8
 }
 
+// Writes the byte v at place p.
+pub fn put8(out: &mut [u8], p: usize, v: u8)
+    ensures { λ _. ⌜ now (out .exit) ≡ put (now (out .entry)) p (digits 1 v) ⌝ }
+{
+    if out.len() <= p {
+        return;
+    }
+    out[p] = v;
+}
+
 // Writes the two bytes of v at place p.
 pub fn put16(out: &mut [u8], p: usize, v: u16)
     ensures { λ _. ⌜ now (out .exit) ≡ put (now (out .entry)) p (digits 2 v) ⌝ }

@@ -124,8 +124,8 @@ module _ (f : ℕ) (l s : List ℕ) (p n : ℕ) where
     unfolding stepsCheck holds
     steps-zero h = simp (answer-bind, answer-must, ne-eqb n 0 k, ← eb, lt-leb 1 b h)
 
-    pub steps-on : 1 ≤ b → (v : ℕ) → v ≡ stepSum l p n → pick (leb v f) (ok tt) (refused 11 0) ≡ answer (stepsCheck f l p n) s
+    pub steps-on : 1 ≤ b → (v : Bool) → v ≡ leb (stepSum l p n) f → pick v (ok tt) (refused 11 0) ≡ answer (stepsCheck f l p n) s
     unfolding stepsCheck holds
     steps-on h v q =
-        let e : sumsWithin f l p 0 n ≡ leb v f = sums-total f l p 0 n (omega arith) ∙ ap (λ (k : ℕ). leb k f) (zero-add (stepSum l p n) ∙ sym q) in
+        let e : sumsWithin f l p 0 n ≡ v = sums-total f l p 0 n (omega arith) ∙ ap (λ (k : ℕ). leb k f) (zero-add (stepSum l p n)) ∙ sym q in
         simp (answer-bind, answer-must, ne-eqb n 0 k, ← eb, e, le-leb 1 b h)

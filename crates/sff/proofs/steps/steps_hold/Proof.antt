@@ -17,14 +17,14 @@ returns-2 c l =
     let g = b .before .before .before .args in
     steps-zero (g .flows) (g .steps .now) l 0 _ (b .before .if1 .left) _ (b .byte .ensures) (c .if2 .taken)
 
-sum-of-requires : tie.Need-sum-of-requires
-sum-of-requires c κs = search needs
+sum-within-requires : tie.Need-sum-within-requires
+sum-within-requires c κs = search needs
 
 returns-3 : tie.Need-returns-3
 returns-3 c l =
     let b = c .before .before in
     let g = b .before .before .before .args in
-    steps-on (g .flows) (g .steps .now) l 0 _ (b .before .if1 .left) _ (b .byte .ensures) (c .before .if2 .left) _ (c .sum-of .ensures)
+    steps-on (g .flows) (g .steps .now) l 0 _ (b .before .if1 .left) _ (b .byte .ensures) (c .before .if2 .left) _ (c .sum-within .ensures)
 
 pub steps-hold-spec : {M : Type 1} → statement M
-steps-hold-spec = tie.close (tie.spec returns byte-requires returns-2 sum-of-requires returns-3)
+steps-hold-spec = tie.close (tie.spec returns byte-requires returns-2 sum-within-requires returns-3)
