@@ -70,6 +70,12 @@ be-written w n s h =
     let e : length (digits w n) ≡ w = length-digits w n in
     be-front w (digits w n) s 0 (omega arith) ∙ be-digits w n ∙ mod-eq-of-lt h
 
+-- a number that is written k bytes behind what stands in front
+pub be-field : (w n k : ℕ) (u v r s : List ℕ) → s ≡ v ++ (digits w n ++ r) → length v ≡ k → n < 256 ^ w → be w (u ++ s) (length u + k) ≡ n
+be-field w n k u v r s e f h =
+    let z : length v + 0 ≡ k = omega arith in
+    be-shift w u s k ∙ rw (e, ← z) (be-shift w v (digits w n ++ r) 0 ∙ be-written w n r h)
+
 -- the bytes of a number are unique
 top-same : (m a b x y : ℕ) → a < m → b < m → a + x * m ≡ b + y * m → x ≡ y
 top-same m a b x y ha hb e =

@@ -6,18 +6,21 @@ use mathlib.Core.List.{List, []}
 use mathlib.Core.Bool.{Bool, true, false}
 use native.Mathlib.Omega.{arith}
 use lib.ListN.{length}
-use borrow.Author.Tests.{le-leb, lt-leb, le-ltb, lt-ltb}
+use borrow.Author.Tests.{le-leb, lt-leb, le-ltb, lt-ltb, leb-true, ltb-true, eqb-true}
 use Rattle.reading.specs.Choice.{pick}
 use Rattle.reading.specs.Check.{Answer, ok, refused, mapAnswer, answer, holds}
 use Rattle.reading.proofs.Steps.{answer-bind, answer-must, answer-done}
+use Rattle.reading.proofs.Passed.{bind-ok, must-ok, done-ok}
 use Rattle.sff.specs.declared.read.ReadHeader.{ReadHeader}
 use Rattle.sff.specs.Padding.{padding, padded}
+use Rattle.sff.specs.Clips.{clipsCheck}
+use Rattle.sff.specs.Steps.{stepsCheck}
 use Rattle.writing.specs.Put.{put}
 use Rattle.sff_write.specs.declared.write.Writer.{Writer}
 use Rattle.sff_write.specs.Header.{headerSize, headerBytes}
 use Rattle.sff_write.specs.Read.{Given, headerWith, headerFor, lengthsCheck, contentsCheck, readBytes, Fitting}
-use Rattle.sff_write.specs.Write.{Piece, behind, writtenAt, beginning, nextState, addingFit, adding}
-use Rattle.sff_write.proofs.read.Laws.{size-is, length-read}
+use Rattle.sff_write.specs.Write.{Piece, behind, writtenAt, beginning, nextState, addingFit, adding, finishing}
+use Rattle.sff_write.proofs.read.Laws.{fitting, size-is, length-read}
 
 -- what is told of an answer, and what the output then holds
 module _ (a : Answer Piece) (p : ℕ) (o : List ℕ) where
@@ -114,3 +117,51 @@ module _ (w : Writer) (r : Given) (room : ℕ) where
 
     pub add-told : b ≡ true → (x : Answer Writer) (p : ℕ) (l o : List ℕ) → (x ≡ mapAnswer behind (answer (addingFit w r room) [])) × (l ≡ writtenAt p (answer (addingFit w r room) []) o) → (x ≡ mapAnswer behind (answer (adding w r room) [])) × (l ≡ writtenAt p (answer (adding w r room) []) o)
     add-told k x p l o t = rw (← add-fits k) t
+
+-- what a header that was written has passed
+pub record Began (reads : ℕ) (letters key : List ℕ) (room : ℕ) (x : Piece) : Type 0 where
+  pub fits : headerSize letters key ≤ 65535
+  pub enough : headerSize letters key ≤ room
+  pub piece : x ≡ record { bytes = headerBytes reads letters key; state = record { reads = reads; written = 0; flows = length letters; at = headerSize letters key } }
+
+pub begin-passed : (reads : ℕ) (letters key : List ℕ) (room : ℕ) (x : Piece) → answer (beginning reads letters key room) [] ≡ ok x → Began reads letters key room x
+unfolding beginning holds
+begin-passed reads letters key room x h =
+    let a = bind-ok _ _ [] x h in
+    let b = bind-ok _ _ [] x (a .2) in
+    let c = bind-ok _ _ [] x (b .2) in
+    let d = bind-ok _ _ [] x (c .2) in
+    record { fits = leb-true _ _ (must-ok _ _ _ [] (c .0) (c .1)); enough = leb-true _ _ (must-ok _ _ _ [] (d .0) (d .1)); piece = sym (done-ok _ x [] (d .2)) }
+
+-- what a read that was written has passed
+pub record Added (w : Writer) (r : Given) (room : ℕ) (x : Piece) : Type 0 where
+  pub below : w .written < w .reads
+  pub fit : Fitting (w .flows) r
+  pub clips : answer (clipsCheck (headerFor (w .at) r)) [] ≡ ok tt
+  pub steps : answer (stepsCheck (w .flows) (r .steps) 0 (length (r .steps))) [] ≡ ok tt
+  pub enough : w .at + length (readBytes (headerFor (w .at) r) r) ≤ room
+  pub piece : x ≡ record { bytes = readBytes (headerFor (w .at) r) r; state = nextState w r }
+
+pub add-passed : (w : Writer) (r : Given) (room : ℕ) (x : Piece) → answer (adding w r room) [] ≡ ok x → Added w r room x
+unfolding adding addingFit contentsCheck holds
+add-passed w r room x h =
+    let a = bind-ok _ _ [] x h in
+    let b = bind-ok _ _ [] x (a .2) in
+    let c = bind-ok _ _ [] x (b .2) in
+    let d = bind-ok _ _ [] x (c .2) in
+    let e = bind-ok _ _ [] (c .0) (c .1) in
+    record {
+      below = ltb-true _ _ (must-ok _ _ _ [] (a .0) (a .1));
+      fit = fitting (w .flows) r [] (b .0) (b .1);
+      clips = e .1;
+      steps = e .2;
+      enough = leb-true _ _ (must-ok _ _ _ [] (d .0) (d .1));
+      piece = sym (done-ok _ x [] (d .2));
+    }
+
+-- what a finished file has passed
+pub finish-passed : (w : Writer) (x : ℕ) → answer (finishing w) [] ≡ ok x → (w .written ≡ w .reads) × (w .at ≡ x)
+unfolding finishing holds
+finish-passed w x h =
+    let a = bind-ok _ _ [] x h in
+    (eqb-true _ _ (must-ok _ _ _ [] (a .0) (a .1)), done-ok _ x [] (a .2))
