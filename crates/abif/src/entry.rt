@@ -14,7 +14,7 @@ ghost use Rattle.reading.specs.Explain.{tested};
 ghost use Rattle.abif.specs.Entry.{entryOf, hasTag, typeOf, listedCheck, rawCheck, sizesCheck, placeCheck, entryCheck, item};
 
 // A directory entry with its place; a signed field as its unsigned number.
-pub(crate) struct Entry {
+pub struct Entry {
     pub place: usize,
     pub name: u32,
     pub number: u32,
@@ -26,7 +26,7 @@ pub(crate) struct Entry {
 }
 
 // What an element type is: listed with its element size, raw bytes, or not handled.
-pub(crate) enum ElementType {
+pub enum ElementType {
     Listed(u16),
     Raw,
     Unknown,
@@ -67,7 +67,7 @@ pub(crate) fn has_tag(h: &[u8], p: usize, name: u32, number: u32) -> bool
     false
 }
 
-pub(crate) fn type_of(k: u16) -> ElementType
+pub fn type_of(k: u16) -> ElementType
     ensures { λ r. ⌜ r ≡ typeOf k ⌝ }
 {
     match k {

@@ -7,6 +7,7 @@ use Rattle.reading.specs.Part.{Span}
 use Rattle.capi.specs.declared.answers.Verdict.{Verdict}
 use Rattle.capi.specs.declared.answers.Part.{Part}
 use Rattle.capi.specs.declared.answers.Listed.{Listed}
+use Rattle.capi.specs.declared.answers.Written.{Written}
 
 -- judging's extent, of a format that has no unjudged entries
 abbrev pub asVerdict : Answer ℕ → Verdict
@@ -21,6 +22,11 @@ asPart (refused n e) = record { refusal = n; start = 0; length = 0 }
 abbrev pub asListed : Answer ℕ → Listed
 asListed (ok n) = record { refusal = 0; count = n }
 asListed (refused n e) = record { refusal = n; count = 0 }
+
+-- the length of a file that was written
+abbrev pub asWritten : Answer ℕ → Written
+asWritten (ok n) = record { refusal = 0; length = n }
+asWritten (refused n e) = record { refusal = n; length = 0 }
 
 -- 0.0
 abbrev pub zero32 : Float

@@ -102,6 +102,24 @@ pub struct Flow {
     pub flow: u64,
 }
 
+// The length of a file that was written.
+#[repr(C)]
+pub struct Written {
+    pub refusal: u64,
+    pub length: u64,
+}
+
+// The state of an SFF file that is being written: the stated number of reads, how many of them are written, how many flows each has, and the
+// place behind what is written.
+#[repr(C)]
+pub struct SffWriter {
+    pub refusal: u64,
+    pub reads: u64,
+    pub written: u64,
+    pub flows: u64,
+    pub at: u64,
+}
+
 // A SNP's record: the genotype's code, its number of letters and of those that are B, the letters of the base call, the score's bits, and the
 // intensities.
 #[repr(C)]

@@ -4,3 +4,5 @@ pub mod Sff
 pub mod Gtc
 pub mod Demand3
 pub mod Samples
+pub mod AbifWritten
+pub mod SffWritten

@@ -151,8 +151,8 @@ fn put_bases(out: &mut [u8], p: usize, steps: &[u8], letters: &[u8], qualities: 
     copy(out, second, letters);
     let third = second + letters.len();
     copy(out, third, qualities);
-    let end = third + qualities.len();
-    put_zeros(out, end, zeros);
+    let last = third + qualities.len();
+    put_zeros(out, last, zeros);
 }
 
 // Writes a read at place p, of which all is known to fit.

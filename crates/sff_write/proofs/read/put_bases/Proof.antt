@@ -18,8 +18,8 @@ add-third c = search needs
 copy-requires-3 : tie.Need-copy-requires-3
 copy-requires-3 c κs = search needs
 
-add-end : tie.Need-add-end
-add-end c = search needs
+add-last : tie.Need-add-last
+add-last c = search needs
 
 put-zeros-requires : tie.Need-put-zeros-requires
 put-zeros-requires c κs = search needs
@@ -39,7 +39,7 @@ put-bases-spec =
     copy-requires-2
     add-third
     copy-requires-3
-    add-end
+    add-last
     put-zeros-requires
     same-length
     returns)

@@ -1,0 +1,5 @@
+pub mod Contents
+pub mod Item
+pub mod Entry
+pub mod File
+pub mod Write

@@ -1,0 +1,110 @@
+// Writing an ABIF file.
+use crate::file::directory_place;
+use crate::file::put_file;
+use crate::item::Passing;
+use crate::item::items_tests;
+ghost use mathlib.Core.Path.{_≡_};
+ghost use mathlib.Core.List.{[]};
+ghost use lib.ListN.{length};
+ghost use Rattle.reading.specs.Check.{answer, mapAnswer};
+ghost use Rattle.reading.specs.Lent.{filled};
+ghost use Rattle.abif_write.specs.Item.{given, sameLengths, Accepted};
+ghost use Rattle.abif_write.specs.File.{fileCheck};
+ghost use Rattle.abif_write.specs.Write.{writing, written};
+
+// The length of the file that was written, or the refusal.
+pub enum Written {
+    Length(usize),
+    Refused(u8),
+}
+
+fn same_lengths(
+    names: &[u32],
+    numbers: &[i32],
+    types: &[i16],
+    counts: &[u32],
+    starts: &[u64],
+    lengths: &[u64],
+) -> bool
+    ensures { λ r. ⌜ r ≡ sameLengths (now (names .entry)) (now (numbers .entry)) (now (types .entry)) (now (counts .entry)) (now (starts .entry)) (now (lengths .entry)) ⌝ }
+{
+    let n = names.len();
+    if numbers.len() != n {
+        return false;
+    }
+    if types.len() != n {
+        return false;
+    }
+    if counts.len() != n {
+        return false;
+    }
+    if starts.len() != n {
+        return false;
+    }
+    lengths.len() == n
+}
+
+// Writes items that have passed their checks. The last checks too are made before the first byte is written.
+fn write_accepted(
+    names: &[u32],
+    numbers: &[i32],
+    types: &[i16],
+    counts: &[u32],
+    starts: &[u64],
+    lengths: &[u64],
+    buffer: &[u8],
+    out: &mut [u8],
+) -> Written
+    requires { ⌜ Accepted (now names) (now numbers) (now types) (now counts) (now starts) (now lengths) (now buffer) ⌝ }
+    ensures { λ r. ⌜ written r ≡ mapAnswer length (answer (fileCheck (given (now (names .entry)) (now (numbers .entry)) (now (types .entry)) (now (counts .entry)) (now (starts .entry)) (now (lengths .entry))) (now (buffer .entry)) (length (now (names .entry))) (length (now (out .entry)))) []) ⌝ }
+    ensures { λ _. ⌜ now (out .exit) ≡ filled (answer (fileCheck (given (now (names .entry)) (now (numbers .entry)) (now (types .entry)) (now (counts .entry)) (now (starts .entry)) (now (lengths .entry))) (now (buffer .entry)) (length (now (names .entry))) (length (now (out .entry)))) []) (now (out .entry)) ⌝ }
+{
+    let n = names.len();
+    if 999 < n {
+        return Written::Refused(5);
+    }
+    let place = directory_place(names, numbers, types, counts, starts, lengths, buffer);
+    let end = place + 28 * n;
+    if 2147483647 < end {
+        return Written::Refused(9);
+    }
+    if out.len() < end {
+        return Written::Refused(13);
+    }
+    put_file(
+        names,
+        numbers,
+        types,
+        counts,
+        starts,
+        lengths,
+        buffer,
+        out,
+        place,
+    );
+    Written::Length(end)
+}
+
+// Writes the file of the items that the lent records name to the front of the output. Record i of an item is element i of each of the first six
+// slices: its tag's name and number, its type, its count, and the start and length of its part of the data.
+pub fn write(
+    names: &[u32],
+    numbers: &[i32],
+    types: &[i16],
+    counts: &[u32],
+    starts: &[u64],
+    lengths: &[u64],
+    buffer: &[u8],
+    out: &mut [u8],
+) -> Written
+    ensures { λ r. ⌜ written r ≡ mapAnswer length (answer (writing (now (names .entry)) (now (numbers .entry)) (now (types .entry)) (now (counts .entry)) (now (starts .entry)) (now (lengths .entry)) (now (buffer .entry)) (length (now (out .entry)))) []) ⌝ }
+    ensures { λ _. ⌜ now (out .exit) ≡ filled (answer (writing (now (names .entry)) (now (numbers .entry)) (now (types .entry)) (now (counts .entry)) (now (starts .entry)) (now (lengths .entry)) (now (buffer .entry)) (length (now (out .entry)))) []) (now (out .entry)) ⌝ }
+{
+    if !same_lengths(names, numbers, types, counts, starts, lengths) {
+        return Written::Refused(9);
+    }
+    if let Passing::Fail(e) = items_tests(names, numbers, types, counts, starts, lengths, buffer) {
+        return Written::Refused(e);
+    }
+    write_accepted(names, numbers, types, counts, starts, lengths, buffer, out)
+}

@@ -1,0 +1,44 @@
+// The call that writes an ABIF file.
+use crate::answers::Written;
+use abif_write::write;
+ghost use mathlib.Core.Path.{_≡_};
+ghost use mathlib.Core.List.{[]};
+ghost use lib.ListN.{length};
+ghost use Rattle.reading.specs.Check.{answer, mapAnswer};
+ghost use Rattle.reading.specs.Lent.{filled};
+ghost use Rattle.abif_write.specs.Write.{writing, written};
+ghost use Rattle.capi.specs.Answers.{asWritten};
+
+fn as_written(a: write::Written) -> Written
+    ensures { λ r. ⌜ r ≡ asWritten (written a) ⌝ }
+{
+    match a {
+        write::Written::Length(n) => Written {
+            refusal: 0,
+            length: n as u64,
+        },
+        write::Written::Refused(n) => Written {
+            refusal: n as u64,
+            length: 0,
+        },
+    }
+}
+
+#[no_mangle]
+pub extern "C" fn jt_abif_write(
+    names: &[u32],
+    numbers: &[i32],
+    types: &[i16],
+    counts: &[u32],
+    starts: &[u64],
+    lengths: &[u64],
+    buffer: &[u8],
+    out: &mut [u8],
+) -> Written
+    ensures { λ r. ⌜ r ≡ asWritten (mapAnswer length (answer (writing (now (names .entry)) (now (numbers .entry)) (now (types .entry)) (now (counts .entry)) (now (starts .entry)) (now (lengths .entry)) (now (buffer .entry)) (length (now (out .entry)))) [])) ⌝ }
+    ensures { λ _. ⌜ now (out .exit) ≡ filled (answer (writing (now (names .entry)) (now (numbers .entry)) (now (types .entry)) (now (counts .entry)) (now (starts .entry)) (now (lengths .entry)) (now (buffer .entry)) (length (now (out .entry)))) []) (now (out .entry)) ⌝ }
+{
+    as_written(write::write(
+        names, numbers, types, counts, starts, lengths, buffer, out,
+    ))
+}

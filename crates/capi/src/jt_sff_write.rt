@@ -1,0 +1,129 @@
+// The calls that write an SFF file. The state goes in and comes back; its `refusal` is not looked at.
+use crate::answers::SffWriter;
+use crate::answers::Written;
+use sff_write::read::Clips;
+use sff_write::write;
+ghost use mathlib.Core.Path.{_≡_};
+ghost use mathlib.Core.List.{[]};
+ghost use lib.ListN.{length};
+ghost use Rattle.reading.specs.Check.{answer, mapAnswer};
+ghost use Rattle.sff_write.specs.Read.{given};
+ghost use Rattle.sff_write.specs.Write.{behind, advanced, written, writtenAt, beginning, adding, finishing};
+ghost use Rattle.capi.specs.Answers.{asWritten};
+ghost use Rattle.capi.specs.SffWrite.{stateOf, toldWriter, asWriter, asAdded, clipsOf};
+
+fn state_of(w: SffWriter) -> write::Writer
+    ensures { λ r. ⌜ r ≡ stateOf w ⌝ }
+{
+    write::Writer {
+        reads: w.reads,
+        written: w.written,
+        flows: w.flows,
+        at: w.at as usize,
+    }
+}
+
+fn told_writer(w: write::Writer) -> SffWriter
+    ensures { λ r. ⌜ r ≡ toldWriter w ⌝ }
+{
+    SffWriter {
+        refusal: 0,
+        reads: w.reads,
+        written: w.written,
+        flows: w.flows,
+        at: w.at as u64,
+    }
+}
+
+fn as_writer(a: write::Advanced) -> SffWriter
+    ensures { λ r. ⌜ r ≡ asWriter (advanced a) ⌝ }
+{
+    match a {
+        write::Advanced::To(w) => told_writer(w),
+        write::Advanced::Refused(n) => SffWriter {
+            refusal: n as u64,
+            reads: 0,
+            written: 0,
+            flows: 0,
+            at: 0,
+        },
+    }
+}
+
+#[no_mangle]
+pub extern "C" fn jt_sff_begin(
+    reads: u32,
+    flow_letters: &[u8],
+    key_letters: &[u8],
+    out: &mut [u8],
+) -> SffWriter
+    ensures { λ r. ⌜ r ≡ asWriter (mapAnswer behind (answer (beginning reads (now («flow_letters» .entry)) (now («key_letters» .entry)) (length (now (out .entry)))) [])) ⌝ }
+    ensures { λ _. ⌜ now (out .exit) ≡ writtenAt 0 (answer (beginning reads (now («flow_letters» .entry)) (now («key_letters» .entry)) (length (now (out .entry)))) []) (now (out .entry)) ⌝ }
+{
+    as_writer(write::begin(reads, flow_letters, key_letters, out))
+}
+
+// A refused read leaves the state as it was, so that the next call may go on.
+fn as_added(w: SffWriter, a: write::Advanced) -> SffWriter
+    ensures { λ r. ⌜ r ≡ asAdded w (advanced a) ⌝ }
+{
+    match a {
+        write::Advanced::To(v) => told_writer(v),
+        write::Advanced::Refused(n) => SffWriter {
+            refusal: n as u64,
+            reads: w.reads,
+            written: w.written,
+            flows: w.flows,
+            at: w.at,
+        },
+    }
+}
+
+#[no_mangle]
+pub extern "C" fn jt_sff_add(
+    w: SffWriter,
+    name: &[u8],
+    flows: &[u16],
+    steps: &[u8],
+    letters: &[u8],
+    qualities: &[u8],
+    quality_left: u64,
+    quality_right: u64,
+    adapter_left: u64,
+    adapter_right: u64,
+    out: &mut [u8],
+) -> SffWriter
+    ensures { λ r. ⌜ r ≡ asAdded w (mapAnswer behind (answer (adding (stateOf w) (given (now (name .entry)) (now (flows .entry)) (now (steps .entry)) (now (letters .entry)) (now (qualities .entry)) (clipsOf «quality_left» «quality_right» «adapter_left» «adapter_right»)) (length (now (out .entry)))) [])) ⌝ }
+    ensures { λ _. ⌜ now (out .exit) ≡ writtenAt (w .at) (answer (adding (stateOf w) (given (now (name .entry)) (now (flows .entry)) (now (steps .entry)) (now (letters .entry)) (now (qualities .entry)) (clipsOf «quality_left» «quality_right» «adapter_left» «adapter_right»)) (length (now (out .entry)))) []) (now (out .entry)) ⌝ }
+{
+    let clips = Clips {
+        quality_left,
+        quality_right,
+        adapter_left,
+        adapter_right,
+    };
+    let state = state_of(w);
+    as_added(w, write::add(state, name, flows, steps, letters, qualities, clips, out))
+}
+
+fn as_written(a: write::Written) -> Written
+    ensures { λ r. ⌜ r ≡ asWritten (written a) ⌝ }
+{
+    match a {
+        write::Written::Length(n) => Written {
+            refusal: 0,
+            length: n as u64,
+        },
+        write::Written::Refused(n) => Written {
+            refusal: n as u64,
+            length: 0,
+        },
+    }
+}
+
+#[no_mangle]
+pub extern "C" fn jt_sff_finish(w: SffWriter) -> Written
+    ensures { λ r. ⌜ r ≡ asWritten (answer (finishing (stateOf w)) []) ⌝ }
+{
+    as_written(write::finish(state_of(w)))
+}
