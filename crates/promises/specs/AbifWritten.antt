@@ -28,7 +28,7 @@ pub record FoundAs (file : List ℕ) (name number code count : ℕ) (bytes : Lis
   pub answers : answer (lookingUp name number) file ≡ ok found
   pub same-type : found .«element_type» ≡ code
   pub same-count : found .count ≡ count
-  pub same-bytes : take (found .count) (drop (found .start) file) ≡ bytes
+  pub same-bytes : take (found .size) (drop (found .start) file) ≡ bytes
 
 -- how the file reads that was written of the lent records and the data b
 pub record ReadsBack (names : List ℕ) (numbers types : List ℤ) (counts starts lengths b file : List ℕ) : Type 0 where
