@@ -5,7 +5,10 @@ use crate::lookup::lookup;
 use reading::number::byte;
 use reading::part::part;
 ghost use mathlib.Core.Path.{_≡_};
+ghost use mathlib.Core.Bool.{true};
 ghost use mathlib.Core.List.{List};
+ghost use lib.Dec.{eqb};
+ghost use Rattle.reading.specs.Choice.{pick};
 ghost use Prim.Native.Nat.{ℕ, _+_, _≤_};
 ghost use lib.ListN.{length};
 ghost use Rattle.reading.specs.Check.{answer};
@@ -18,19 +21,28 @@ pub enum Text {
     Refused(u8),
 }
 
-// One of the n bytes from place p on is zero.
-fn zero_among(l: &[u8], p: usize, n: usize) -> bool
-    requires { ⌜ p + n ≤ length (now l) ⌝ }
-    ensures { λ r. ⌜ r ≡ zeroAmong (now (l .entry)) p n ⌝ }
+// A zero was found before, or the byte is one.
+fn zero_or(found: bool, b: u8) -> bool
+    ensures { λ r. ⌜ r ≡ pick (eqb b 0) true found ⌝ }
 {
+    if b == 0 {
+        return true;
+    }
+    found
+}
+
+// One of the bytes is zero. All of them are looked at, with no way out in between, so that the machine takes many at once.
+pub fn has_zero(l: &[u8]) -> bool
+    ensures { λ r. ⌜ r ≡ zeroAmong (now (l .entry)) 0 (length (now (l .entry))) ⌝ }
+{
+    let n = l.len();
+    let mut found = false;
     let mut i = 0;
     while i < n {
-        if l[p + i] == 0 {
-            return true;
-        }
+        found = zero_or(found, l[i]);
         i += 1;
     }
-    false
+    found
 }
 
 fn p_string(l: &[u8], q: ItemData) -> Text
@@ -54,7 +66,9 @@ fn c_string(l: &[u8], q: ItemData) -> Text
     if byte(l, q.start + n) != 0 {
         return Text::Refused(11);
     }
-    let inner = zero_among(l, q.start, n);
+    let start = q.start;
+    let end = start + n;
+    let inner = has_zero(&l[start..end]);
     if inner {
         return Text::Refused(11);
     }

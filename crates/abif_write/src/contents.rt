@@ -1,4 +1,5 @@
 // What the contents of an item must be. Only dates, times and texts have rules.
+use abif::text::has_zero;
 use reading::number::byte;
 ghost use mathlib.Core.Path.{_≡_};
 ghost use mathlib.Core.List.{[]};
@@ -97,21 +98,6 @@ fn p_string_holds(p: &[u8]) -> bool
     true
 }
 
-// One of the first n bytes is zero.
-fn has_zero(p: &[u8], n: usize) -> bool
-    requires { ⌜ n ≤ length (now p) ⌝ }
-    ensures { λ r. ⌜ r ≡ zeroAmong (now (p .entry)) 0 n ⌝ }
-{
-    let mut i = 0;
-    while i < n {
-        if p[i] == 0 {
-            return true;
-        }
-        i += 1;
-    }
-    false
-}
-
 fn c_string_holds(p: &[u8]) -> bool
     ensures { λ r. ⌜ kept r ≡ answer (textCheck (now (p .entry)) (cString (itself 19 (now (p .entry))) (now (p .entry)))) [] ⌝ }
 {
@@ -122,7 +108,7 @@ fn c_string_holds(p: &[u8]) -> bool
     if byte(p, n) != 0 {
         return false;
     }
-    let inner = has_zero(p, n);
+    let inner = has_zero(&p[..n]);
     if inner {
         return false;
     }

@@ -1,10 +1,11 @@
 -- The text of an item, from the answers of its parts.
 -- Assumes nothing.
-use Prim.Native.Nat.{ℕ, suc, _+_, _-_, _≤_, _<_}
-use mathlib.Core.Path.{_≡_, ap}
+use Prim.Native.Nat.{ℕ, zero, suc, _+_, _-_, _≤_, _<_}
+use mathlib.Core.Path.{_≡_, refl, sym, _∙_, ap}
 use mathlib.Core.List.{List}
 use mathlib.Core.Bool.{Bool, true, false}
-use lib.ListN.{length, take, getD}
+use lib.ListN.{length, take, drop, getD, length-take, length-drop}
+use lib.Seq.{getD-take, getD-drop}
 use native.Mathlib.Omega.{arith}
 use lib.Dec.{eqb}
 use borrow.Author.Tests.{eq-eqb, ne-eqb, le-leb, lt-leb, leb-true}
@@ -12,7 +13,6 @@ use Rattle.reading.specs.Number.{be}
 use Rattle.reading.specs.Choice.{pick}
 use Rattle.reading.specs.Check.{ok, refused, answer, holds}
 use Rattle.reading.specs.Part.{Span}
-use Rattle.reading.proofs.Loop.{Left}
 use Rattle.reading.proofs.Steps.{answer-bind, answer-must, answer-done, answer-need-present}
 use Rattle.reading.proofs.Passed.{bind-ok, done-ok, must-ok}
 use Rattle.abif.specs.declared.lookup.ItemData.{ItemData}
@@ -20,20 +20,42 @@ use Rattle.abif.specs.Lookup.{lookingUp}
 use Rattle.abif.specs.Text.{zeroAmong, pString, cString, textOf, textReading}
 use Rattle.abif.proofs.lookup.Laws.{found-checked}
 
-pub zero-start : (l : List ℕ) (p n : ℕ) → Left (λ m. zeroAmong l (p + 0) m) n 0 (zeroAmong l p n)
-zero-start l p n m e =
+-- a turn of the loop that looks for a zero: found says whether there was one before
+pub zero-on : (l : List ℕ) (i : ℕ) (found next : Bool) → next ≡ pick (eqb (getD l i 0) 0) true found → (m : ℕ) → pick found true (zeroAmong l i (suc m)) ≡ pick next true (zeroAmong l (i + 1) m)
+unfolding zeroAmong
+zero-on l i found next e m = rw e (go found (eqb (getD l i 0) 0))
+  where
+    go : (a b : Bool) → pick a true (pick b true (zeroAmong l (i + 1) m)) ≡ pick (pick b true a) true (zeroAmong l (i + 1) m)
+    go true true = refl
+    go true false = refl
+    go false true = refl
+    go false false = refl
+
+pub zero-end : (l : List ℕ) (i : ℕ) (found : Bool) → pick found true (zeroAmong l i 0) ≡ found
+unfolding zeroAmong
+zero-end l i true = refl
+zero-end l i false = refl
+
+-- the n bytes from place p on, in the part that they fill
+zero-same : (l m : List ℕ) (p q n : ℕ) → ((i : ℕ) → i < n → getD l (p + i) 0 ≡ getD m (q + i) 0) → zeroAmong l p n ≡ zeroAmong m q n
+unfolding zeroAmong
+zero-same l m p q zero h = refl
+zero-same l m p q (suc n) h =
     let a : p + 0 ≡ p = omega arith in
-    let b : m ≡ n = omega arith in
-    rw (a, b)
+    let b : q + 0 ≡ q = omega arith in
+    let e : getD l p 0 ≡ getD m q 0 = ap (λ (k : ℕ). getD l k 0) (sym a) ∙ h 0 (omega arith) ∙ ap (λ (k : ℕ). getD m k 0) b in
+    rw (e, zero-same l m (p + 1) (q + 1) n (λ i k. ap (λ (j : ℕ). getD l j 0) (omega arith) ∙ h (suc i) (omega arith) ∙ ap (λ (j : ℕ). getD m j 0) (omega arith)))
 
-module _ (l : List ℕ) (p i m : ℕ) where
-  pub zero-here : getD l (p + i) 0 ≡ 0 → zeroAmong l (p + i) (suc m) ≡ true
-  unfolding zeroAmong
-  zero-here h = rw (eq-eqb (getD l (p + i) 0) 0 h)
+pub zero-window : (l : List ℕ) (p n : ℕ) → p + n ≤ length l → zeroAmong (take (p + n - p) (drop p l)) 0 (length (take (p + n - p) (drop p l))) ≡ zeroAmong l p n
+zero-window l p n h =
+    let k : p + n - p ≡ n = omega arith in
+    let z : length (take n (drop p l)) ≡ n = simp (length-take, length-drop) (omega arith) in
+    rw (k, z) (zero-same (take n (drop p l)) l 0 p n (λ i q. getD-take n (drop p l) (0 + i) 0 (omega arith) ∙ getD-drop p l (0 + i) 0 ∙ ap (λ (j : ℕ). getD l j 0) (omega arith)))
 
-  pub zero-on : (getD l (p + i) 0 ≡ 0 → ⊥) → zeroAmong l (p + i) (suc m) ≡ zeroAmong l (p + (i + 1)) m
-  unfolding zeroAmong
-  zero-on h = rw (ne-eqb (getD l (p + i) 0) 0 h) (ap (λ (k : ℕ). zeroAmong l k m) (omega arith))
+pub zero-taken : (l : List ℕ) (n : ℕ) → n ≤ length l → zeroAmong (take n l) 0 (length (take n l)) ≡ zeroAmong l 0 n
+zero-taken l n h =
+    let z : length (take n l) ≡ n = simp length-take (omega arith) in
+    rw z (zero-same (take n l) l 0 0 n (λ i q. getD-take n l (0 + i) 0 (omega arith)))
 
 module _ (q : ItemData) (l s : List ℕ) (b : ℕ) (e : b ≡ be 1 l (q .start)) where
   pub p-bad : (b ≡ q .size - 1 → ⊥) → refused 11 0 ≡ answer (pString q l) s

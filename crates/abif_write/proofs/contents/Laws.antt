@@ -66,16 +66,6 @@ module _ (p : List ℕ) (rule : Check Span) where
     unfolding textCheck holds
     text-good v e = simp (answer-bind, answer-must, answer-done, le-leb 1 (length p) h, ← e)
 
--- a turn of the loop that looks for a zero
-module _ (l : List ℕ) (i m : ℕ) where
-  pub zero-here : getD l i 0 ≡ 0 → zeroAmong l i (suc m) ≡ true
-  unfolding zeroAmong
-  zero-here h = rw (eq-eqb (getD l i 0) 0 h)
-
-  pub zero-on : (getD l i 0 ≡ 0 → ⊥) → zeroAmong l i (suc m) ≡ zeroAmong l (i + 1) m
-  unfolding zeroAmong
-  zero-on h = rw (ne-eqb (getD l i 0) 0 h)
-
 -- a type that has no rule
 pub contents-free : (k n : ℕ) (p : List ℕ) → (k ≡ 10 → ⊥) → (k ≡ 11 → ⊥) → (k ≡ 18 → ⊥) → (k ≡ 19 → ⊥) → ok tt ≡ answer (contentsCheck k n p) []
 unfolding contentsCheck

@@ -1,5 +1,8 @@
+use Prim.Native.Nat.{_-_}
+use mathlib.Core.Path.{_∙_}
+use native.Mathlib.Omega.{arith}
+use Rattle.abif.proofs.text.Laws.{zero-window, c-bad, c-inner, c-good}
 use borrow.Author.Needs.{needs}
-use Rattle.abif.proofs.text.Laws.{c-bad, c-inner, c-good}
 use Rattle.abif.proofs.text.c_string.Statement.{statement}
 use Rattle.abif.proofs.text.c_string.Tie as tie
 
@@ -13,27 +16,49 @@ byte-requires : tie.Need-byte-requires
 byte-requires c κs = search needs
 
 returns : tie.Need-returns
-returns c s =
-    let b = c .before in
-    let g = b .before .before .before .before .args in
-    c-bad (g .q) (g .l .now) s _ (b .byte .ensures) (c .if1 .taken)
+returns c l =
+    let g = c .before .before .before .before .before .args in
+    c-bad (g .q) (g .l .now) l _ (c .before .byte .ensures) (c .if1 .taken)
 
-zero-among-requires : tie.Need-zero-among-requires
-zero-among-requires c κs = search needs
+add-end : tie.Need-add-end
+add-end c = search needs
+
+sub-has-zero : tie.Need-sub-has-zero
+sub-has-zero c = search needs
+
+part-has-zero-start : tie.Need-part-has-zero-start
+part-has-zero-start c = search needs
+
+part-has-zero-end : tie.Need-part-has-zero-end
+part-has-zero-end c = search needs
+
+has-zero-requires : tie.Need-has-zero-requires
+has-zero-requires c κs = search needs
 
 returns-2 : tie.Need-returns-2
-returns-2 c s =
-    let b = c .before .before .before in
-    let g = b .before .before .before .before .args in
-    c-inner (g .q) (g .l .now) s _ (b .byte .ensures) (c .before .before .if1 .left) _ (c .before .zero-among .ensures) (c .if2 .taken)
+returns-2 c l =
+    let g = c .before .before .before .before .before .before .before .before .args in
+    let z = c .before .has-zero .ensures ∙ zero-window (g .l .now) (g .q .start) (g .q .size - 1) (omega arith) in
+    c-inner (g .q) (g .l .now) l _ (c .before .before .before .before .byte .ensures) (c .before .before .before .if1 .left) _ z (c .if2 .taken)
 
 returns-3 : tie.Need-returns-3
-returns-3 c s =
-    let b = c .before .before .before in
-    let g = b .before .before .before .before .args in
-    c-good (g .q) (g .l .now) s _ (b .byte .ensures) (c .before .before .if1 .left) _ (c .before .zero-among .ensures) (c .if2 .left)
+returns-3 c l =
+    let g = c .before .before .before .before .before .before .before .before .args in
+    let z = c .before .has-zero .ensures ∙ zero-window (g .l .now) (g .q .start) (g .q .size - 1) (omega arith) in
+    c-good (g .q) (g .l .now) l _ (c .before .before .before .before .byte .ensures) (c .before .before .before .if1 .left) _ z (c .if2 .left)
 
 pub c-string-spec : {M : Type 1} → statement M
 c-string-spec =
     tie.close
-    (tie.spec sub-n add-byte byte-requires returns zero-among-requires returns-2 returns-3)
+    (tie.spec
+    sub-n
+    add-byte
+    byte-requires
+    returns
+    add-end
+    sub-has-zero
+    part-has-zero-start
+    part-has-zero-end
+    has-zero-requires
+    returns-2
+    returns-3)
