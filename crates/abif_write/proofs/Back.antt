@@ -9,7 +9,7 @@ use lib.Seq.{drop-append-add}
 use borrow.Author.Tests.{lt-leb}
 use Rattle.reading.specs.Number.{be}
 use Rattle.writing.specs.Put.{digits}
-use Rattle.writing.proofs.Digits.{be-shift, be-written}
+use Rattle.writing.proofs.Digits.{be-field}
 use Rattle.abif.specs.declared.entry.Entry.{Entry}
 use Rattle.abif.specs.Entry.{entryOf}
 use Rattle.abif_write.specs.declared.item.Item.{Item}
@@ -28,12 +28,6 @@ pub record Fits (d : Entry) : Type 0 where
   pub count-fits : d .«element_count» < 0x100000000
   pub size-fits : d .«data_size» < 0x100000000
   pub offset-fits : d .«data_offset» < 0x100000000
-
--- a field behind k bytes of s
-field : (w n k : ℕ) (u v r s : List ℕ) → s ≡ v ++ (digits w n ++ r) → length v ≡ k → n < 256 ^ w → be w (u ++ s) (length u + k) ≡ n
-field w n k u v r s e f h =
-    let z : length v + 0 ≡ k = omega arith in
-    be-shift w u s k ∙ rw (e, ← z) (be-shift w v (digits w n ++ r) 0 ∙ be-written w n r h)
 
 -- an entry is read back at its place
 pub entry-back : (u r : List ℕ) (d : Entry) → d .place ≡ length u → Fits d → entryOf (u ++ (entryBytes d ++ r)) (length u) ≡ d
@@ -54,13 +48,13 @@ entry-back u r d pl f =
     let r2 = digits 2 (d .«element_type») ++ r3 in
     let r1 = digits 4 (d .number) ++ r2 in
     let z : length u + 0 ≡ length u = omega arith in
-    let a = ap (λ (p : ℕ). be 4 (u ++ s) p) (sym z) ∙ field 4 (d .name) 0 u [] r1 s refl refl (f .name-fits) in
-    let b = field 4 (d .number) 4 u n1 r2 s refl refl (f .number-fits) in
-    let c = field 2 (d .«element_type») 8 u n2 r3 s refl refl (f .type-fits) in
-    let e = field 2 (d .«element_size») 10 u n3 r4 s refl refl (f .width-fits) in
-    let g = field 4 (d .«element_count») 12 u n4 r5 s refl refl (f .count-fits) in
-    let h = field 4 (d .«data_size») 16 u n5 r6 s refl refl (f .size-fits) in
-    let k = field 4 (d .«data_offset») 20 u n6 r7 s refl refl (f .offset-fits) in
+    let a = ap (λ (p : ℕ). be 4 (u ++ s) p) (sym z) ∙ be-field 4 (d .name) 0 u [] r1 s refl refl (f .name-fits) in
+    let b = be-field 4 (d .number) 4 u n1 r2 s refl refl (f .number-fits) in
+    let c = be-field 2 (d .«element_type») 8 u n2 r3 s refl refl (f .type-fits) in
+    let e = be-field 2 (d .«element_size») 10 u n3 r4 s refl refl (f .width-fits) in
+    let g = be-field 4 (d .«element_count») 12 u n4 r5 s refl refl (f .count-fits) in
+    let h = be-field 4 (d .«data_size») 16 u n5 r6 s refl refl (f .size-fits) in
+    let k = be-field 4 (d .«data_offset») 20 u n6 r7 s refl refl (f .offset-fits) in
     let l = sym pl in
     λ i. record { place = l i; name = a i; number = b i; «element_type» = c i; «element_size» = e i; «element_count» = g i; «data_size» = h i; «data_offset» = k i }
 

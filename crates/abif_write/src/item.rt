@@ -2,11 +2,11 @@
 use crate::contents::contents_hold;
 use abif::entry::ElementType;
 use abif::entry::type_of;
+use reading::number::bits16;
 ghost use mathlib.Core.Path.{_≡_};
 ghost use mathlib.Core.List.{[]};
 ghost use Prim.Native.Nat.{_<_};
 ghost use lib.ListN.{length};
-ghost use Rattle.reading.specs.Number.{bits};
 ghost use Rattle.reading.specs.Check.{answer};
 ghost use Rattle.abif.specs.Entry.{typeOf};
 ghost use Rattle.abif_write.specs.Item.{given, SameLengths, isTaken, writtenSize, countCheck, itemCheck, tagBelow, ordered, itemsCheck, passing};
@@ -25,17 +25,6 @@ pub(crate) struct Item {
 pub(crate) enum Passing {
     Pass,
     Fail(u8),
-}
-
-// The 16 bits of the signed number x.
-fn bits16(x: i16) -> u16
-    ensures { λ r. ⌜ r ≡ bits 2 x ⌝ }
-{
-    if 0 <= x {
-        return x as u16;
-    }
-    let y = -1 - x;
-    0xffff - y as u16
 }
 
 // Item i of the lent records.

@@ -1,6 +1,6 @@
 // ABIF: a file written from lent item records and their data.
-pub mod contents;
-pub mod entry;
-pub mod file;
-pub mod item;
+pub(crate) mod contents;
+pub(crate) mod entry;
+pub(crate) mod file;
+pub(crate) mod item;
 pub mod write;

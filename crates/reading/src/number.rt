@@ -233,6 +233,17 @@ pub fn signed_pair(high: u8, low: u8) -> i64
     256 * signed8(high) as i64 + low as i64
 }
 
+// The 16 bits of the signed number x.
+pub fn bits16(x: i16) -> u16
+    ensures { λ r. ⌜ r ≡ bits 2 x ⌝ }
+{
+    if 0 <= x {
+        return x as u16;
+    }
+    let y = -1 - x;
+    0xffff - y as u16
+}
+
 // The 32 bits of the signed number x.
 pub fn bits32(x: i32) -> u32
     ensures { λ r. ⌜ r ≡ bits 4 x ⌝ }

@@ -1,9 +1,9 @@
 use mathlib.Core.Path.{refl, _∙_}
 use native.Mathlib.Omega.{arith}
 use mir.Syntax.{w16}
 use Rattle.reading.proofs.Bits.{cast-up, cast-down, bits-up, negative, minus, minus-fits, minus-is, of-bits, below-bits}
-use Rattle.abif_write.proofs.item.bits16.Statement.{statement}
-use Rattle.abif_write.proofs.item.bits16.Tie as tie
+use Rattle.reading.proofs.number.bits16.Statement.{statement}
+use Rattle.reading.proofs.number.bits16.Tie as tie
 
 cast-result : tie.Need-cast-result
 cast-result c = cast-up w16 w16 (omega arith) (c .before .args .x) (c .before .fits .x) (c .if1 .taken)
