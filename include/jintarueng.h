@@ -1,10 +1,12 @@
 /* Sequencing data files in memory: calls for C over the proved library. Link with libcapi.a.
 
-   Each call is given one file as its bytes: `bytes`, `len`. The caller sees to it that `len` bytes can be read at
-   `bytes`, and that `room` elements can be written at `out`; NULL is fine where the length is 0. A call keeps nothing
-   and changes only what it is lent as output. Places are offsets into `bytes`.
+   A call that reads is given one file as its bytes: `bytes`, `len`. The caller sees to it that `len` bytes can be read
+   at `bytes`, that `room` elements can be written at `out`, and so for every pointer and the number of elements behind
+   it; NULL is fine where the number is 0. A call keeps nothing and changes only what it is lent as output, which must
+   not overlap anything else that it is lent. Places are offsets into `bytes`.
 
-   An answer has refusal 0. Else `refusal` is one of these numbers, and every other field is 0, but for a verdict's entry:
+   An answer has refusal 0. Else `refusal` is one of these numbers, and every other field is 0, but for a verdict's
+   entry and for what jt_sff_add hands back:
 
       1  cut short: a byte that the rule needs lies at or past the end
       2  opening mark of another kind
@@ -184,6 +186,22 @@ typedef struct jt_point {
     float y;
 } jt_point;
 
+/* The length of a file that was written. */
+typedef struct jt_written {
+    uint64_t refusal;
+    uint64_t length;
+} jt_written;
+
+/* How far the writing of an SFF file has come: the reads that its header states, those that are written, the flows of
+   each, and where the next one starts in the output. */
+typedef struct jt_sff_writer {
+    uint64_t refusal;
+    uint64_t reads;
+    uint64_t written;
+    uint64_t flows;
+    uint64_t at;
+} jt_sff_writer;
+
 /* Whether the bytes are a whole ABIF file, and its extent. */
 jt_verdict jt_abif_judge(const uint8_t *bytes, size_t len);
 
@@ -204,6 +222,18 @@ jt_part jt_abif_text(const uint8_t *bytes, size_t len, uint32_t name, int32_t nu
 jt_listed jt_abif_whole_numbers(const uint8_t *bytes, size_t len, uint32_t name, int32_t number, uint64_t first,
                                 int64_t *out, size_t room);
 
+/* Writes an ABIF file of these items, in this order, to the front of `out`. The lists have one element for each item:
+   the name and number of its tag, its type, its number of elements, and the start and length of its data in `data`,
+   bytes as they stand in a file. Refusals: 9 for lists of different lengths; then for each item in turn 9 for a part
+   outside `data`, 10 for a type that is not written (the legacy types, 1023 and unknown ones), 9 where count and length
+   disagree or pass 2147483647 (an element of a user type is one byte), 11 for a text, date or time that the format
+   forbids, 14 for a tag that is not above the one before it, by name, then by signed number; then 5, 9 for a file of
+   more than 2147483647 bytes, 13. Refused, `out` is unchanged; else it is unchanged behind the file. */
+jt_written jt_abif_write(const uint32_t *names, size_t name_count, const int32_t *numbers, size_t number_count,
+                         const int16_t *types, size_t type_count, const uint32_t *counts, size_t count_count,
+                         const uint64_t *starts, size_t start_count, const uint64_t *lengths, size_t length_count,
+                         const uint8_t *data, size_t data_len, uint8_t *out, size_t room);
+
 /* Whether the bytes are a whole SFF file, and its extent. What stands in the reads is not judged. */
 jt_verdict jt_sff_judge(const uint8_t *bytes, size_t len);
 
@@ -223,6 +253,26 @@ struct jt_sff_read jt_sff_read_at(const uint8_t *bytes, size_t len, uint64_t sta
 
 /* The flow that base `base`, from one, of read `k` was called from. Refusals: those of jt_sff_read, 12. */
 jt_flow jt_sff_flow_of_base(const uint8_t *bytes, size_t len, uint64_t k, uint64_t base);
+
+/* Begins an SFF file of so many reads, with no index, by writing its header to the front of `out`. Each read is then
+   added to the same `out`, which nothing else may change meanwhile. Refusals: 9 for more letters than the header's
+   fields count, 13. Refused, `out` is unchanged. */
+jt_sff_writer jt_sff_begin(uint32_t reads, const uint8_t *flow_letters, size_t flow_count, const uint8_t *key_letters,
+                           size_t key_len, uint8_t *out, size_t room);
+
+/* Adds the next read to what `w` tells of, and tells of both; what refusal `w` has does not matter. There is a step, a
+   letter and a quality for each base, and a clip of 0 is none. Refusals: 9 for a read past the stated number, and for
+   lengths and clips that disagree or do not fit their fields; 11 for a clip above the number of bases, a first step of
+   0, and steps that pass the flows; 13. Refused, `out` is unchanged and the answer is `w` with this refusal, so that
+   the next call may go on from it. */
+jt_sff_writer jt_sff_add(jt_sff_writer w, const uint8_t *name, size_t name_len, const uint16_t *flows,
+                         size_t flow_count, const uint8_t *steps, size_t step_count, const uint8_t *letters,
+                         size_t letter_count, const uint8_t *qualities, size_t quality_count, uint64_t quality_left,
+                         uint64_t quality_right, uint64_t adapter_left, uint64_t adapter_right, uint8_t *out,
+                         size_t room);
+
+/* The length of the file, once the stated number of reads is written; before that, 9. */
+jt_written jt_sff_finish(jt_sff_writer w);
 
 /* Whether the bytes are a whole GTC file, its extent, and how many of its entries were not judged. Genotypes and base
    calls are not judged. */

@@ -1,9 +1,12 @@
-//! ABIF: judging, and whole numbers read at once.
+//! ABIF: judging, whole numbers read at once, and writing.
 
 use crate::timing::compare_times;
 use compare::abif::generate::{plain_file, random_content, Content, Order};
 use compare::abif::library;
 use compare::abif::reader::{self, Tag};
+use compare::abif::writer;
+use compare::abif::writing::generate::sound_data;
+use compare::abif::writing::list::List;
 use compare::answers;
 use compare::random::Random;
 use std::hint::black_box;
@@ -11,6 +14,11 @@ use std::hint::black_box;
 const ROUNDS: usize = 1001;
 const SHORTS: usize = 10_000;
 const TRACE: Tag = Tag::new(b"DATA", 9);
+const WRITING_ROUNDS: usize = 101;
+const ITEMS_WRITTEN: usize = 500;
+const BYTES_WRITTEN: usize = 20_000;
+/// Seven types of any contents, then dates, times and texts.
+pub const MIXED_TYPES: [i16; 10] = [1, 4, 4, 5, 8, 12, 1024, 10, 11, 19];
 
 pub fn judging(tags: usize) {
     let file = file_of(tags);
@@ -49,6 +57,37 @@ pub fn whole_numbers() {
         || {
             let out = black_box(&mut plain[..]);
             let _ = black_box(reader::whole_numbers(black_box(&file), TRACE, 1, out));
+        },
+    );
+}
+
+/// Items of these types in turn; each side writes into a buffer of its own, which is not cleared.
+pub fn writing(name: &str, types: &[i16]) {
+    let mut random = Random::new(3);
+    let contents = (0..ITEMS_WRITTEN).map(|index| {
+        let code = types[index % types.len()];
+        let size = writer::element_size(code).expect("the type may be written");
+        Content::listed(code, sound_data(&mut random, code, BYTES_WRITTEN / size))
+    });
+    let list = List::numbered(contents.collect());
+    let lent = list.lent();
+    let mut ours = vec![0; list.file_length()];
+    let mut plain = vec![0; list.file_length()];
+    let answer = writer::write(&lent, &mut plain);
+    assert_eq!(answer, Ok(plain.len() as u64));
+    let written = library::write(&lent, &mut ours);
+    assert_eq!(written, answers::Finished::from(answer));
+    assert!(ours == plain);
+    compare_times(
+        &format!("writing {ITEMS_WRITTEN} items of {BYTES_WRITTEN} bytes, {name}"),
+        WRITING_ROUNDS,
+        || {
+            let out = black_box(&mut ours[..]);
+            black_box(library::write(black_box(&lent), out));
+        },
+        || {
+            let out = black_box(&mut plain[..]);
+            let _ = black_box(writer::write(black_box(&lent), out));
         },
     );
 }

@@ -1,4 +1,4 @@
-//! The library's time against the plain Rust readers', call by call in one run.
+//! The library's time against the plain Rust readers' and writers', call by call in one run.
 
 mod abif;
 mod gtc;
@@ -10,11 +10,14 @@ fn main() {
         abif::judging(tags);
     }
     abif::whole_numbers();
+    abif::writing("shorts", &[4]);
+    abif::writing("mixed types", &abif::MIXED_TYPES);
     let file = sff::instrument_file();
     sff::judging(&file);
     sff::places(&file);
     sff::reads_at_places(&file);
     sff::every_read(&file);
+    sff::writing();
     let file = gtc::array_file();
     gtc::judging(&file);
     gtc::single_snps(&file);

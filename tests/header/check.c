@@ -1,4 +1,5 @@
-/* The header fits the archive: sizes of the structs, and each call on the files W2 and W7 to W11 of document 01. */
+/* The header fits the archive: sizes of the structs, and each call on the files W2 and W7 to W11 of document 01, of
+   which W2, W7 and W8 are also written. */
 #include "jintarueng.h"
 
 #include <stddef.h>
@@ -59,6 +60,13 @@ FIELD(jt_snp, call_2, 5);
 FIELD(jt_snp, score_bits, 6);
 FIELD(jt_snp, x, 7);
 FIELD(jt_snp, y, 8);
+FIELD(jt_written, refusal, 0);
+FIELD(jt_written, length, 1);
+FIELD(jt_sff_writer, refusal, 0);
+FIELD(jt_sff_writer, reads, 1);
+FIELD(jt_sff_writer, written, 2);
+FIELD(jt_sff_writer, flows, 3);
+FIELD(jt_sff_writer, at, 4);
 
 /* A field of 32 bits stands at this place of a transformation. */
 #define TRANSFORMATION_FIELD(name, place)                                                                              \
@@ -178,6 +186,109 @@ static void check_sizes(void) {
     check(sizeof(jt_transformation) == 52, "size of jt_transformation");
     check(sizeof(jt_transformation_answer) == 64, "size of jt_transformation_answer");
     check(sizeof(jt_point) == 8, "size of jt_point");
+    check(sizeof(jt_written) == 16, "size of jt_written");
+    check(sizeof(jt_sff_writer) == 40, "size of jt_sff_writer");
+}
+
+/* No byte of the output from this place on was written. */
+static int untouched(const uint8_t *out, size_t from, size_t room) {
+    for (size_t i = from; i < room; i++) {
+        if (out[i] != 0xA5) {
+            return 0;
+        }
+    }
+    return 1;
+}
+
+/* The items of a call that writes ABIF: all fields of `count` items, but for the lists' lengths. */
+typedef struct items {
+    uint32_t names[2];
+    int32_t numbers[2];
+    int16_t types[2];
+    uint32_t counts[2];
+    uint64_t starts[2];
+    uint64_t lengths[2];
+} items;
+
+static const uint8_t abif_data[] = {0x00, 0x01, 0xFF, 0xFE, 0x07, 0xD6, 13, 1};
+
+/* The item of W2, and a second one, the last three bytes before the month. */
+static const items two_items = {{ABCD, ABCD}, {1, 2}, {4, 1}, {2, 3}, {0, 3}, {4, 3}};
+
+static jt_written write_items(const items *lent, size_t count, uint8_t *out, size_t room) {
+    return jt_abif_write(lent->names, count, lent->numbers, count, lent->types, count, lent->counts, count, lent->starts,
+                         count, lent->lengths, count, abif_data, sizeof abif_data, out, room);
+}
+
+static void check_abif_writing(const uint8_t *file, size_t len) {
+    uint8_t out[200];
+    memset(out, 0xA5, sizeof out);
+    jt_written written = write_items(&two_items, 1, out, sizeof out);
+    check(written.refusal == 0 && written.length == len && memcmp(out, file, len) == 0, "writing W2");
+    check(untouched(out, len, sizeof out), "the output behind W2");
+    memset(out, 0xA5, sizeof out);
+    written = write_items(&two_items, 2, out, 184);
+    check(written.refusal == 0 && written.length == 184 && untouched(out, 184, sizeof out), "writing two items");
+    jt_item item = jt_abif_lookup(out, 184, ABCD, 2);
+    check(item.refusal == 0 && item.type == 1 && item.count == 3 && item.start == 176 && item.length == 3, "second item");
+    check(memcmp(out + 176, abif_data + 3, 3) == 0 && out[179] == 0, "the second item's bytes");
+    written = jt_abif_write(NULL, 0, NULL, 0, NULL, 0, NULL, 0, NULL, 0, NULL, 0, NULL, 0, out, 128);
+    check(written.refusal == 0 && written.length == 128 && jt_abif_judge(out, 128).extent == 128, "writing no items");
+    items longer = two_items;
+    longer.counts[1] = 5;
+    longer.lengths[1] = 5;
+    written = write_items(&longer, 2, out, sizeof out);
+    item = jt_abif_lookup(out, (size_t)written.length, ABCD, 2);
+    check(written.length == 189 && item.start == 128 && item.length == 5, "writing an item behind the header");
+}
+
+/* These two items are refused so, and nothing is written. */
+static void check_refused(const items *lent, uint64_t refusal, const char *what) {
+    uint8_t out[200];
+    memset(out, 0xA5, sizeof out);
+    jt_written written = write_items(lent, 2, out, sizeof out);
+    check(written.refusal == refusal && written.length == 0 && untouched(out, 0, sizeof out), what);
+}
+
+static void check_abif_writing_refusals(void) {
+    items lent = two_items;
+    lent.starts[1] = UINT64_MAX;
+    check_refused(&lent, 9, "a part outside the data");
+    lent = two_items;
+    lent.types[1] = 1023;
+    check_refused(&lent, 10, "a type that is not written");
+    lent = two_items;
+    lent.counts[1] = 4;
+    check_refused(&lent, 9, "a count that is not the length's");
+    lent = (items){{ABCD, ABCD}, {1, 2}, {4, 10}, {2, 1}, {0, 4}, {4, 4}};
+    check_refused(&lent, 11, "a month 13");
+    lent = two_items;
+    lent.numbers[1] = -1;
+    check_refused(&lent, 14, "a number below the one before");
+}
+
+static void check_abif_lists(void) {
+    static uint32_t names[1000], counts[1000];
+    static int32_t numbers[1000];
+    static int16_t types[1000];
+    static uint64_t starts[1000], lengths[1000];
+    uint8_t out[200];
+    memset(out, 0xA5, sizeof out);
+    for (int i = 0; i < 1000; i++) {
+        numbers[i] = i;
+        types[i] = 1;
+    }
+    jt_written written = jt_abif_write(names, 1000, numbers, 1000, types, 1000, counts, 1000, starts, 1000, lengths,
+                                       1000, NULL, 0, out, sizeof out);
+    check(written.refusal == 5 && written.length == 0, "writing 1000 items");
+    written = jt_abif_write(names, 999, numbers, 999, types, 999, counts, 999, starts, 999, lengths, 999, NULL, 0, out,
+                            sizeof out);
+    check(written.refusal == 13 && written.length == 0, "writing 999 items with too little room");
+    written = jt_abif_write(names, 2, numbers, 2, types, 2, counts, 2, starts, 2, lengths, 1, NULL, 0, out, sizeof out);
+    check(written.refusal == 9 && written.length == 0, "lists of different lengths");
+    check(write_items(&two_items, 2, out, 183).refusal == 13, "writing two items with too little room");
+    check(write_items(&two_items, 2, NULL, 0).refusal == 13, "writing two items with no room");
+    check(untouched(out, 0, sizeof out), "the output of refused calls");
 }
 
 static void check_answers(const uint8_t *file, size_t len) {
@@ -265,6 +376,74 @@ static void check_sff_refusals(void) {
     make_sff_file(file, (const uint8_t[]){0, 0}, (const uint8_t[]){0, 1, 1});
     jt_flow flow = jt_sff_flow_of_base(file, len, 1, 2);
     check(flow.refusal == 11 && flow.flow == 0, "a first step of 0");
+}
+
+/* W8's read, with this left quality clip. */
+static jt_sff_writer add_read(jt_sff_writer w, uint64_t quality_left, uint8_t *out, size_t room) {
+    static const uint16_t flows[4] = {100, 200, 0, 100};
+    static const uint8_t steps[3] = {1, 1, 1}, qualities[3] = {0x1E, 0x1F, 0x20};
+    return jt_sff_add(w, (const uint8_t *)"first", 5, flows, 4, steps, 3, (const uint8_t *)"TAC", 3, qualities, 3,
+                      quality_left, 0, 0, 0, out, room);
+}
+
+static jt_sff_writer begin_file(uint32_t reads, uint8_t *out, size_t room) {
+    return jt_sff_begin(reads, (const uint8_t *)"TACG", 4, (const uint8_t *)"TCAG", 4, out, room);
+}
+
+static int same_writer(jt_sff_writer w, uint64_t refusal, uint64_t reads, uint64_t written, uint64_t flows, uint64_t at) {
+    return w.refusal == refusal && w.reads == reads && w.written == written && w.flows == flows && w.at == at;
+}
+
+static void check_sff_writing(void) {
+    uint8_t file[88], out[100];
+    make_sff_header(file, 0);
+    memset(out, 0xA5, sizeof out);
+    jt_sff_writer w = begin_file(0, out, 40);
+    check(same_writer(w, 0, 0, 0, 4, 40) && memcmp(out, file, 40) == 0, "writing W7");
+    jt_written written = jt_sff_finish(w);
+    check(written.refusal == 0 && written.length == 40 && untouched(out, 40, sizeof out), "finishing W7");
+    make_sff_file(file, (const uint8_t[]){0, 0}, (const uint8_t[]){1, 1, 1});
+    w = begin_file(1, out, sizeof out);
+    check(same_writer(w, 0, 1, 0, 4, 40), "beginning W8");
+    w = add_read(w, 2, out, sizeof out);
+    check(same_writer(w, 0, 1, 1, 4, 88) && memcmp(out, file, 88) == 0, "writing W8");
+    written = jt_sff_finish(w);
+    check(written.refusal == 0 && written.length == 88 && untouched(out, 88, sizeof out), "finishing W8");
+    w = jt_sff_begin(1, NULL, 0, NULL, 0, out, 48);
+    w = jt_sff_add(w, NULL, 0, NULL, 0, NULL, 0, NULL, 0, NULL, 0, 0, 0, 0, 0, out, 48);
+    check(same_writer(w, 0, 1, 1, 0, 48) && jt_sff_judge(out, 48).extent == 48, "writing a read of nothing");
+    static const uint8_t steps[2] = {1, 0}, clips[8] = {0, 1, 0, 2, 0, 1, 0, 2};
+    w = (jt_sff_writer){7, 9, 2, 1, 3};
+    w = jt_sff_add(w, NULL, 0, (const uint16_t[]){258}, 1, steps, 2, steps, 2, steps, 2, 1, 2, 1, 2, out, sizeof out);
+    check(same_writer(w, 0, 9, 3, 1, 27) && memcmp(out + 11, clips, 8) == 0, "writing from another state");
+    check(out[19] == 1 && out[20] == 2, "a flow value's bytes");
+}
+
+static void check_sff_writing_refusals(void) {
+    static uint8_t letters[65536];
+    uint8_t out[100];
+    memset(out, 0xA5, sizeof out);
+    jt_sff_writer w = jt_sff_begin(1, letters, sizeof letters, NULL, 0, out, sizeof out);
+    check(same_writer(w, 9, 0, 0, 0, 0), "more flow letters than their field counts");
+    check(same_writer(begin_file(1, out, 39), 13, 0, 0, 0, 0), "a header with too little room");
+    check(same_writer(begin_file(1, NULL, 0), 13, 0, 0, 0, 0), "a header with no room");
+    check(untouched(out, 0, sizeof out), "the output of a file that is not begun");
+    w = begin_file(1, out, sizeof out);
+    w = add_read(w, 65536, out, sizeof out);
+    check(same_writer(w, 9, 1, 0, 4, 40), "a clip that does not fit its field");
+    w = add_read(w, 4, out, sizeof out);
+    check(same_writer(w, 11, 1, 0, 4, 40), "writing a clip above the bases");
+    w = add_read(w, 2, out, 87);
+    check(same_writer(w, 13, 1, 0, 4, 40), "a read with too little room");
+    check(same_writer(add_read(w, 2, NULL, 0), 13, 1, 0, 4, 40), "a read with no room");
+    check(untouched(out, 40, sizeof out), "the output behind the header");
+    jt_written early = jt_sff_finish(w);
+    check(early.refusal == 9 && early.length == 0, "finishing too early");
+    w = add_read(w, 2, out, 88);
+    check(same_writer(w, 0, 1, 1, 4, 88) && jt_sff_finish(w).length == 88, "going on after refusals");
+    w = add_read(w, 2, out, sizeof out);
+    check(same_writer(w, 9, 1, 1, 4, 88) && untouched(out, 88, sizeof out), "a read past the stated number");
+    check(jt_sff_finish(w).refusal == 0, "finishing after a refusal");
 }
 
 static void check_gtc_table(void) {
@@ -362,9 +541,14 @@ int main(void) {
     check_sizes();
     check_answers(file, len);
     check_refusals(file, len);
+    check_abif_writing(file, len);
+    check_abif_writing_refusals();
+    check_abif_lists();
     check_sff_header();
     check_sff_read();
     check_sff_refusals();
+    check_sff_writing();
+    check_sff_writing_refusals();
     check_gtc_table();
     check_gtc_records();
     check_gtc_refusals();

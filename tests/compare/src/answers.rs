@@ -32,6 +32,14 @@ pub struct Listed {
     pub count: u64,
 }
 
+/// The length of a file that was written.
+#[repr(C)]
+#[derive(Clone, Copy, Debug, Default, PartialEq, Eq)]
+pub struct Finished {
+    pub refusal: u64,
+    pub length: u64,
+}
+
 impl Verdict {
     pub fn whole(extent: u64) -> Verdict {
         Verdict {
@@ -77,6 +85,18 @@ impl From<Result<usize, Refusal>> for Listed {
             Err(refusal) => Listed {
                 refusal: refusal as u64,
                 count: 0,
+            },
+        }
+    }
+}
+
+impl From<Result<u64, Refusal>> for Finished {
+    fn from(answer: Result<u64, Refusal>) -> Finished {
+        match answer {
+            Ok(length) => Finished { refusal: 0, length },
+            Err(refusal) => Finished {
+                refusal: refusal as u64,
+                length: 0,
             },
         }
     }

@@ -1,4 +1,4 @@
-//! Compares the library's C functions with readers of its own.
+//! Compares the library's C functions with readers and writers of its own.
 
 pub mod abif;
 pub mod answers;
@@ -10,9 +10,11 @@ pub mod format;
 pub mod groups;
 pub mod gtc;
 pub mod little_endian;
+pub mod output;
 pub mod program;
 pub mod random;
 pub mod refusal;
 pub mod report;
 pub mod samples;
 pub mod sff;
+pub mod tally;

@@ -15,6 +15,7 @@ pub enum Refusal {
     ForbiddenValue = 11,
     NoSuchElement = 12,
     OutputTooSmall = 13,
+    NotAscending = 14,
 }
 
 /// Judging's refusal; `entry` is the entry or read, from one, and 0 for what belongs to none.

@@ -6,6 +6,7 @@ use std::{env, fs, process};
 
 const SHOWN_MISMATCHES: u64 = 3;
 const MOST_BYTES_SHOWN: usize = 512;
+const MOST_LETTERS_SHOWN: usize = 2000;
 
 pub struct Group {
     name: &'static str,
@@ -46,7 +47,8 @@ impl Group {
         self.mismatches += 1;
         if self.mismatches <= SHOWN_MISMATCHES {
             println!("{}: mismatch {}", self.name, self.mismatches);
-            println!("  {}", message());
+            let message: String = message().chars().take(MOST_LETTERS_SHOWN).collect();
+            println!("  {message}");
             println!("  {}", self.describe(bytes));
         }
     }

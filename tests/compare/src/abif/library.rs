@@ -2,7 +2,8 @@
 
 use super::answers::{Element, Opened, Part};
 use super::reader::Tag;
-use crate::answers::{Found, Listed, Verdict};
+use super::writer::Lent;
+use crate::answers::{Finished, Found, Listed, Verdict};
 
 extern "C" {
     fn jt_abif_judge(bytes: *const u8, len: usize) -> Verdict;
@@ -20,6 +21,24 @@ extern "C" {
         out: *mut i64,
         room: usize,
     ) -> Listed;
+    fn jt_abif_write(
+        names: *const u32,
+        name_count: usize,
+        numbers: *const i32,
+        number_count: usize,
+        types: *const i16,
+        type_count: usize,
+        counts: *const u32,
+        count_count: usize,
+        starts: *const u64,
+        start_count: usize,
+        lengths: *const u64,
+        length_count: usize,
+        data: *const u8,
+        data_length: usize,
+        out: *mut u8,
+        room: usize,
+    ) -> Finished;
 }
 
 pub fn judge(bytes: &[u8]) -> Verdict {
@@ -56,6 +75,30 @@ pub fn whole_numbers(bytes: &[u8], tag: Tag, first: u64, out: &mut [i64]) -> Lis
             tag.name,
             tag.number,
             first,
+            out.as_mut_ptr(),
+            out.len(),
+        )
+    }
+}
+
+pub fn write(lent: &Lent, out: &mut [u8]) -> Finished {
+    // SAFETY: each pointer and the length behind it are those of one slice.
+    unsafe {
+        jt_abif_write(
+            lent.names.as_ptr(),
+            lent.names.len(),
+            lent.numbers.as_ptr(),
+            lent.numbers.len(),
+            lent.types.as_ptr(),
+            lent.types.len(),
+            lent.counts.as_ptr(),
+            lent.counts.len(),
+            lent.starts.as_ptr(),
+            lent.starts.len(),
+            lent.lengths.as_ptr(),
+            lent.lengths.len(),
+            lent.data.as_ptr(),
+            lent.data.len(),
             out.as_mut_ptr(),
             out.len(),
         )

@@ -1,4 +1,4 @@
-//! ABIF: its reader, its files and its calls.
+//! ABIF: its reader, its writer, its files and its calls.
 
 pub mod answers;
 mod counts;
@@ -11,6 +11,8 @@ mod questions;
 pub mod reader;
 pub mod samples;
 mod whole;
+pub mod writer;
+pub mod writing;
 
 use crate::answers::Verdict;
 use crate::format::Format;

@@ -13,7 +13,15 @@ pub type Run = fn(&mut Group);
 
 pub fn all() -> Vec<(&'static str, Run)> {
     let program: (&str, Run) = ("program lines", program_lines::lines);
-    [&abif::GROUPS[..], &sff::GROUPS, &gtc::GROUPS, &[program]].concat()
+    [
+        &abif::GROUPS[..],
+        &abif::writing::GROUPS,
+        &sff::GROUPS,
+        &sff::writing::GROUPS,
+        &gtc::GROUPS,
+        &[program],
+    ]
+    .concat()
 }
 
 /// Compares library and reader in every call on this file, and sees that the file stays as it is.

@@ -46,6 +46,27 @@ pub struct Flow {
     pub flow: u64,
 }
 
+/// How far the writing of a file has come.
+#[repr(C)]
+#[derive(Clone, Copy, Debug, Default, PartialEq, Eq)]
+pub struct State {
+    pub refusal: u64,
+    pub reads: u64,
+    pub written: u64,
+    pub flows: u64,
+    pub at: u64,
+}
+
+impl State {
+    /// The answer to a call that was given this state; refused, it differs in the refusal alone.
+    pub fn after(self, answer: Result<State, Refusal>) -> State {
+        answer.unwrap_or_else(|refusal| State {
+            refusal: refusal as u64,
+            ..self
+        })
+    }
+}
+
 impl From<Result<reader::Header, Refusal>> for Header {
     fn from(answer: Result<reader::Header, Refusal>) -> Header {
         match answer {

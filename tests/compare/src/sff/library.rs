@@ -1,7 +1,8 @@
 //! The library's SFF functions behind safe calls.
 
-use super::answers::{Flow, Header, Read};
-use crate::answers::{Listed, Verdict};
+use super::answers::{Flow, Header, Read, State};
+use super::writer::LentRead;
+use crate::answers::{Finished, Listed, Verdict};
 
 extern "C" {
     fn jt_sff_judge(bytes: *const u8, len: usize) -> Verdict;
@@ -16,6 +17,35 @@ extern "C" {
         out: *mut u64,
         room: usize,
     ) -> Listed;
+    fn jt_sff_begin(
+        reads: u32,
+        flow_letters: *const u8,
+        flow_count: usize,
+        key_letters: *const u8,
+        key_length: usize,
+        out: *mut u8,
+        room: usize,
+    ) -> State;
+    fn jt_sff_add(
+        state: State,
+        name: *const u8,
+        name_length: usize,
+        flows: *const u16,
+        flow_count: usize,
+        steps: *const u8,
+        step_count: usize,
+        letters: *const u8,
+        letter_count: usize,
+        qualities: *const u8,
+        quality_count: usize,
+        quality_left: u64,
+        quality_right: u64,
+        adapter_left: u64,
+        adapter_right: u64,
+        out: *mut u8,
+        room: usize,
+    ) -> State;
+    fn jt_sff_finish(state: State) -> Finished;
 }
 
 pub fn judge(bytes: &[u8]) -> Verdict {
@@ -54,4 +84,50 @@ pub fn places(bytes: &[u8], first: u64, out: &mut [u64]) -> Listed {
             out.len(),
         )
     }
+}
+
+pub fn begin(reads: u32, flow_letters: &[u8], key_letters: &[u8], out: &mut [u8]) -> State {
+    // SAFETY: each pointer and the length behind it are those of one slice.
+    unsafe {
+        jt_sff_begin(
+            reads,
+            flow_letters.as_ptr(),
+            flow_letters.len(),
+            key_letters.as_ptr(),
+            key_letters.len(),
+            out.as_mut_ptr(),
+            out.len(),
+        )
+    }
+}
+
+pub fn add(state: State, read: &LentRead, out: &mut [u8]) -> State {
+    let [quality_left, quality_right, adapter_left, adapter_right] = read.clips;
+    // SAFETY: each pointer and the length behind it are those of one slice.
+    unsafe {
+        jt_sff_add(
+            state,
+            read.name.as_ptr(),
+            read.name.len(),
+            read.flows.as_ptr(),
+            read.flows.len(),
+            read.steps.as_ptr(),
+            read.steps.len(),
+            read.letters.as_ptr(),
+            read.letters.len(),
+            read.qualities.as_ptr(),
+            read.qualities.len(),
+            quality_left,
+            quality_right,
+            adapter_left,
+            adapter_right,
+            out.as_mut_ptr(),
+            out.len(),
+        )
+    }
+}
+
+pub fn finish(state: State) -> Finished {
+    // SAFETY: the state is passed by value.
+    unsafe { jt_sff_finish(state) }
 }

@@ -1,4 +1,4 @@
-//! SFF: its reader, its files and its calls.
+//! SFF: its reader, its writer, its files and its calls.
 
 pub mod answers;
 mod damage;
@@ -10,6 +10,8 @@ mod questions;
 pub mod reader;
 pub mod samples;
 mod whole;
+pub mod writer;
+pub mod writing;
 
 use crate::answers::Verdict;
 use crate::format::Format;
