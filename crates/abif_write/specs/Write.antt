@@ -4,9 +4,7 @@ use Prim.Native.Nat.{ℕ}
 use mathlib.Core.List.{List}
 use lib.IntN.{ℤ}
 use lib.ListN.{length}
-use Rattle.reading.specs.Check.{Check, Answer, ok, refused, provided, _>>=_, _>>_}
-use Rattle.abif_write.specs.declared.write.Written.{Written}
-use Rattle.abif_write.specs.declared.write.Written.the-variants.{Length, Refused}
+use Rattle.reading.specs.Check.{Check, provided, _>>=_, _>>_}
 use Rattle.abif_write.specs.Item.{given, sameLengths, itemsCheck}
 use Rattle.abif_write.specs.File.{fileCheck}
 
@@ -16,8 +14,3 @@ writing names numbers types counts starts lengths b room = do
   provided (sameLengths names numbers types counts starts lengths) 9
   itemsCheck (given names numbers types counts starts lengths) b (length names) 0
   fileCheck (given names numbers types counts starts lengths) b (length names) room
-
--- the answer of document 01 that each case stands for: the file's length
-abbrev pub written : Written → Answer ℕ
-written (Length n) = ok n
-written (Refused n) = refused n 0

@@ -3,20 +3,16 @@ use crate::file::directory_place;
 use crate::file::put_file;
 use crate::item::Passing;
 use crate::item::items_tests;
+use writing::answer::Written;
 ghost use mathlib.Core.Path.{_≡_};
 ghost use mathlib.Core.List.{[]};
 ghost use lib.ListN.{length};
 ghost use Rattle.reading.specs.Check.{answer, mapAnswer};
 ghost use Rattle.reading.specs.Lent.{filled};
+ghost use Rattle.writing.specs.Answer.{written};
 ghost use Rattle.abif_write.specs.Item.{given, sameLengths, Accepted};
 ghost use Rattle.abif_write.specs.File.{fileCheck};
-ghost use Rattle.abif_write.specs.Write.{writing, written};
-
-// The length of the file that was written, or the refusal.
-pub enum Written {
-    Length(usize),
-    Refused(u8),
-}
+ghost use Rattle.abif_write.specs.Write.{writing};
 
 fn same_lengths(
     names: &[u32],

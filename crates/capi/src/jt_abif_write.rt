@@ -1,28 +1,14 @@
 // The call that writes an ABIF file.
 use crate::answers::Written;
+use crate::written::as_written;
 use abif_write::write;
 ghost use mathlib.Core.Path.{_≡_};
 ghost use mathlib.Core.List.{[]};
 ghost use lib.ListN.{length};
 ghost use Rattle.reading.specs.Check.{answer, mapAnswer};
 ghost use Rattle.reading.specs.Lent.{filled};
-ghost use Rattle.abif_write.specs.Write.{writing, written};
+ghost use Rattle.abif_write.specs.Write.{writing};
 ghost use Rattle.capi.specs.Answers.{asWritten};
-
-fn as_written(a: write::Written) -> Written
-    ensures { λ r. ⌜ r ≡ asWritten (written a) ⌝ }
-{
-    match a {
-        write::Written::Length(n) => Written {
-            refusal: 0,
-            length: n as u64,
-        },
-        write::Written::Refused(n) => Written {
-            refusal: n as u64,
-            length: 0,
-        },
-    }
-}
 
 #[no_mangle]
 pub extern "C" fn jt_abif_write(
@@ -38,7 +24,5 @@ pub extern "C" fn jt_abif_write(
     ensures { λ r. ⌜ r ≡ asWritten (mapAnswer length (answer (writing (now (names .entry)) (now (numbers .entry)) (now (types .entry)) (now (counts .entry)) (now (starts .entry)) (now (lengths .entry)) (now (buffer .entry)) (length (now (out .entry)))) [])) ⌝ }
     ensures { λ _. ⌜ now (out .exit) ≡ filled (answer (writing (now (names .entry)) (now (numbers .entry)) (now (types .entry)) (now (counts .entry)) (now (starts .entry)) (now (lengths .entry)) (now (buffer .entry)) (length (now (out .entry)))) []) (now (out .entry)) ⌝ }
 {
-    as_written(write::write(
-        names, numbers, types, counts, starts, lengths, buffer, out,
-    ))
+    as_written(write::write(names, numbers, types, counts, starts, lengths, buffer, out))
 }

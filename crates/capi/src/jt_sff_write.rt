@@ -1,6 +1,7 @@
 // The calls that write an SFF file. The state goes in and comes back; its `refusal` is not looked at.
 use crate::answers::SffWriter;
 use crate::answers::Written;
+use crate::written::as_written;
 use sff_write::read::Clips;
 use sff_write::write;
 ghost use mathlib.Core.Path.{_≡_};
@@ -8,7 +9,7 @@ ghost use mathlib.Core.List.{[]};
 ghost use lib.ListN.{length};
 ghost use Rattle.reading.specs.Check.{answer, mapAnswer};
 ghost use Rattle.sff_write.specs.Read.{given};
-ghost use Rattle.sff_write.specs.Write.{behind, advanced, written, writtenAt, beginning, adding, finishing};
+ghost use Rattle.sff_write.specs.Write.{behind, advanced, writtenAt, beginning, adding, finishing};
 ghost use Rattle.capi.specs.Answers.{asWritten};
 ghost use Rattle.capi.specs.SffWrite.{stateOf, toldWriter, asWriter, asAdded, clipsOf};
 
@@ -103,22 +104,10 @@ pub extern "C" fn jt_sff_add(
         adapter_right,
     };
     let state = state_of(w);
-    as_added(w, write::add(state, name, flows, steps, letters, qualities, clips, out))
-}
-
-fn as_written(a: write::Written) -> Written
-    ensures { λ r. ⌜ r ≡ asWritten (written a) ⌝ }
-{
-    match a {
-        write::Written::Length(n) => Written {
-            refusal: 0,
-            length: n as u64,
-        },
-        write::Written::Refused(n) => Written {
-            refusal: n as u64,
-            length: 0,
-        },
-    }
+    as_added(
+        w,
+        write::add(state, name, flows, steps, letters, qualities, clips, out),
+    )
 }
 
 #[no_mangle]

@@ -7,15 +7,13 @@ use mathlib.Core.Bool.{Bool, true, false}
 use native.Mathlib.Nat.{zero-add}
 use native.Mathlib.Omega.{arith}
 use lib.Dec.{leb}
-use lib.ListN.{length, take, drop, getD, length-append, length-take}
+use lib.ListN.{length, take, drop, getD, length-append}
 use borrow.Author.Tests.{leb-true, leb-false}
-use Rattle.reading.specs.Choice.{pick}
 use Rattle.reading.specs.Number.{be}
 use Rattle.reading.specs.Check.{ok, answer, holds}
 use Rattle.reading.proofs.Width.{be-in-part}
 use Rattle.reading.proofs.Passed.{bind-ok, must-ok}
 use Rattle.sff.specs.declared.header.Header.{Header}
-use Rattle.sff.specs.declared.read.ReadHeader.{ReadHeader}
 use Rattle.sff.specs.Header.{header}
 use Rattle.sff.specs.Read.{readEnd, dataStart, stepsStart, lettersStart, framing}
 use Rattle.sff.specs.Walk.{front, Passage, walk}
@@ -26,16 +24,16 @@ use Rattle.sff.proofs.padding.Laws.{padded-bounds}
 use Rattle.sff.proofs.steps.Laws.{steps-window}
 use Rattle.sff.proofs.lookup.Laws.{last-below}
 use Rattle.sff.proofs.NoIndex.{framing-passes, read-from-passes, clips-any, steps-any, walk-passes, walk-start, judging-passes, number-passes, number-none, number-past}
-use Rattle.writing.specs.Put.{words, put}
-use Rattle.writing.proofs.Over.{put-room, take-put, length-put}
+use Rattle.writing.specs.Put.{put}
+use Rattle.writing.proofs.Over.{take-put}
 use Rattle.writing.proofs.Words.{word-back}
 use Rattle.sff_write.specs.declared.write.Writer.{Writer}
 use Rattle.sff_write.specs.Header.{headerSize, headerBytes}
 use Rattle.sff_write.specs.Read.{Given, headerWith, headerFor, readBytes, Fitting}
-use Rattle.sff_write.specs.Write.{Piece, beginning, adding, nextState}
+use Rattle.sff_write.specs.Write.{Piece, beginning, adding}
 use Rattle.sff_write.proofs.write.Laws.{begin-passed, add-passed, finish-passed}
 use Rattle.sff_write.proofs.Back.{header-length, headerBack, header-back, flow-letters-back, key-back, read-end, present-back, name-back, flows-back, steps-back, letters-back, qualities-back, among-letters}
-use Rattle.promises.specs.SffWritten.{Session, begun, added, bytesAt, insertGiven, ReadIs, ReadsBack, Lent, SffReadsBack}
+use Rattle.promises.specs.SffWritten.{Session, begun, added, bytesAt, ReadIs, ReadsBack, Lent, SffReadsBack}
 
 -- the letters from base m to base n stand in the file as they were given
 insert-same : (s letters : List ℕ) (p m n : ℕ) → 1 ≤ m → n ≤ length letters → ((i j : ℕ) → i + j ≤ length letters → take j (drop (p + i) s) ≡ take j (drop i letters)) → bytesAt s (insertFrom p m n) ≡ bytesAt letters (insertFrom 0 m n)
@@ -151,10 +149,11 @@ module _ (n : ℕ) (letters key : List ℕ) (g : ℕ → Given) where
       let t : take (w .at + length v) (put o (w .at) v) ≡ upTo m ++ v = take-put o (w .at) v (a .enough) ∙ ap (λ (l : List ℕ). l ++ v) (s .held) in
       let p : w .at + length v ≡ length (upTo m ++ readBytes (headerFor (length (upTo m)) (g m)) (g m)) = rw (length-append, ← e, s .place) in
       let z : Sound m =
-          record
-            { fit = subst (λ (f : ℕ). Fitting f (g m)) (s .flows) (a .fit)
-            ; clips = subst (λ (p : ℕ). answer (clipsCheck (headerFor p (g m))) [] ≡ ok tt) (s .place) (a .clips)
-            ; steps = subst (λ (f : ℕ). answer (stepsCheck f (g m .steps) 0 (length (g m .steps))) [] ≡ ok tt) (s .flows) (a .steps) } in
+      record {
+        fit = subst (λ (f : ℕ). Fitting f (g m)) (s .flows) (a .fit);
+        clips = subst (λ (p : ℕ). answer (clipsCheck (headerFor p (g m))) [] ≡ ok tt) (s .place) (a .clips);
+        steps = subst (λ (f : ℕ). answer (stepsCheck f (g m .steps) 0 (length (g m .steps))) [] ≡ ok tt) (s .flows) (a .steps);
+      } in
       subst (λ (y : Piece). State (suc m) (y .state) (put o (w .at) (y .bytes))) (sym (a .piece))
       (record { stated = s .stated; count = ap (λ (k : ℕ). k + 1) (s .count) ∙ omega arith; flows = s .flows; place = p; held = t ∙ ap (λ (l : List ℕ). upTo m ++ l) e; fits = s .fits; sound = below-next Sound m (s .sound) z })
 

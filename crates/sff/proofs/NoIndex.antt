@@ -1,29 +1,27 @@
 -- A file with no index: what its calls answer, from what its header and its reads are.
 -- Assumes nothing.
-use Prim.Native.Nat.{ℕ, zero, suc, _+_, _-_, _*_, _≤_, _<_}
-use mathlib.Core.Path.{_≡_, refl, sym, _∙_, ap, subst}
+use Prim.Native.Nat.{ℕ, zero, suc, _+_, _-_, _≤_, _<_}
+use mathlib.Core.Path.{_≡_, refl}
 use mathlib.Core.List.{List, [], _∷_}
-use mathlib.Core.Bool.{Bool, true, false}
+use mathlib.Core.Bool.{true, false}
 use native.Mathlib.Omega.{arith}
 use lib.ListN.{length, take}
 use lib.Dec.{eqb}
-use borrow.Author.Tests.{eq-eqb, ne-eqb, le-leb}
-use Rattle.reading.specs.Choice.{pick}
+use borrow.Author.Tests.{eq-eqb, ne-eqb}
 use Rattle.reading.specs.Number.{be}
-use Rattle.reading.specs.Check.{ok, refused, answer, holds, done}
+use Rattle.reading.specs.Check.{ok, refused, answer, holds}
 use Rattle.reading.proofs.Steps.{answer-bind, answer-must, answer-done, answer-at, answer-need-present}
 use Rattle.sff.specs.declared.header.Header.{Header}
 use Rattle.sff.specs.declared.read.ReadHeader.{ReadHeader}
 use Rattle.sff.specs.declared.walk.Boundary.{Boundary}
 use Rattle.sff.specs.Padding.{padded}
-use Rattle.sff.specs.Header.{headerOf, markCheck, lengthCheck, indexCheck, header, sameZero}
+use Rattle.sff.specs.Header.{headerOf, markCheck, lengthCheck, indexCheck, header}
 use Rattle.sff.specs.Read.{readHeaderOf, readEnd, dataStart, stepsStart, Present, present, framing}
-use Rattle.sff.specs.Walk.{front, skipIndex, Placed, nextRead, Passage, walk, walkPast, beforeRead}
-use Rattle.sff.specs.Judge.{indexMet, ending, judgingReads, judging}
+use Rattle.sff.specs.Walk.{front, skipIndex, nextRead, Passage, walk, beforeRead}
+use Rattle.sff.specs.Judge.{ending, judgingReads, judging}
 use Rattle.sff.specs.Clips.{clipsCheck}
 use Rattle.sff.specs.Steps.{stepsCheck}
 use Rattle.sff.specs.Lookup.{readOf, readContents, readFrom, readIn, readReading}
-use Rattle.sff.proofs.padding.Laws.{padded-bounds}
 use Rattle.sff.proofs.walk.Laws.{before-none, before-past, before-is}
 use Rattle.sff.proofs.walk.Split.{walk-join}
 

@@ -8,9 +8,7 @@ use Rattle.reading.specs.Check.{Check, Answer, ok, refused, done, provided, _>>
 use Rattle.writing.specs.Put.{put}
 use Rattle.sff_write.specs.declared.write.Writer.{Writer}
 use Rattle.sff_write.specs.declared.write.Advanced.{Advanced}
-use Rattle.sff_write.specs.declared.write.Advanced.the-variants as advanced-case
-use Rattle.sff_write.specs.declared.write.Written.{Written}
-use Rattle.sff_write.specs.declared.write.Written.the-variants as written-case
+use Rattle.sff_write.specs.declared.write.Advanced.the-variants.{To, Refused}
 use Rattle.sff_write.specs.Header.{headerSize, headerBytes}
 use Rattle.sff_write.specs.Read.{Given, headerFor, lengthsCheck, contentsCheck, readBytes}
 
@@ -62,9 +60,5 @@ writtenAt p (refused n e) out = out
 
 -- the answer of document 01 that each case stands for
 abbrev pub advanced : Advanced → Answer Writer
-advanced (advanced-case.To w) = ok w
-advanced (advanced-case.Refused n) = refused n 0
-
-abbrev pub written : Written → Answer ℕ
-written (written-case.Length n) = ok n
-written (written-case.Refused n) = refused n 0
+advanced (To w) = ok w
+advanced (Refused n) = refused n 0

@@ -2,9 +2,9 @@
 use sff::padding::padding_behind;
 use writing::bytes::copy;
 use writing::bytes::put_zeros;
+use writing::number::put8;
 use writing::number::put16;
 use writing::number::put32;
-use writing::number::put8;
 ghost use mathlib.Core.Path.{_≡_};
 ghost use mathlib.Core.List.{_++_};
 ghost use Prim.Native.Nat.{_+_, _≤_};

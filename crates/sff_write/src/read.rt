@@ -5,9 +5,9 @@ use sff::read::ReadHeader;
 use sff::steps::steps_hold;
 use writing::bytes::copy;
 use writing::bytes::put_zeros;
+use writing::number::put_words;
 use writing::number::put16;
 use writing::number::put32;
-use writing::number::put_words;
 ghost use mathlib.Core.Path.{_≡_};
 ghost use mathlib.Core.List.{List, _++_};
 ghost use Prim.Native.Nat.{ℕ, _+_, _*_, _≤_, _<_};
@@ -55,7 +55,15 @@ fn name_fits(n: usize) -> bool
 }
 
 // The lengths fit their fields and agree, in a file of so many flows.
-pub(crate) fn lengths_hold(count: u64, name: &[u8], flows: &[u16], steps: &[u8], letters: &[u8], qualities: &[u8], clips: Clips) -> bool
+pub(crate) fn lengths_hold(
+    count: u64,
+    name: &[u8],
+    flows: &[u16],
+    steps: &[u8],
+    letters: &[u8],
+    qualities: &[u8],
+    clips: Clips,
+) -> bool
     ensures { λ r. ⌜ ((l : List ℕ) → pick r (ok tt) (refused 9 0) ≡ answer (lengthsCheck count (given (now (name .entry)) (now (flows .entry)) (now (steps .entry)) (now (letters .entry)) (now (qualities .entry)) clips)) l) ⌝ }
 {
     let fits = name_fits(name.len());
@@ -156,7 +164,17 @@ fn put_bases(out: &mut [u8], p: usize, steps: &[u8], letters: &[u8], qualities: 
 }
 
 // Writes a read at place p, of which all is known to fit.
-pub(crate) fn put_read(out: &mut [u8], p: usize, d: ReadHeader, name: &[u8], flows: &[u16], steps: &[u8], letters: &[u8], qualities: &[u8], clips: Clips)
+pub(crate) fn put_read(
+    out: &mut [u8],
+    p: usize,
+    d: ReadHeader,
+    name: &[u8],
+    flows: &[u16],
+    steps: &[u8],
+    letters: &[u8],
+    qualities: &[u8],
+    clips: Clips,
+)
     requires { ⌜ (length (now name) ≤ 65535) × (length (now flows) ≤ 65535) × (length (now letters) ≤ 0xffffffff) × (length (now steps) ≡ length (now letters)) × (length (now qualities) ≡ length (now letters)) ⌝ }
     requires { ⌜ p + length (readBytes d (given (now name) (now flows) (now steps) (now letters) (now qualities) clips)) ≤ length (now out) ⌝ }
     ensures { λ _. ⌜ now (out .exit) ≡ put (now (out .entry)) p (readBytes d (given (now (name .entry)) (now (flows .entry)) (now (steps .entry)) (now (letters .entry)) (now (qualities .entry)) clips)) ⌝ }

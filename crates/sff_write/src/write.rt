@@ -6,13 +6,15 @@ use crate::read::header_with;
 use crate::read::lengths_hold;
 use crate::read::put_read;
 use sff::padding::padding_behind;
+use writing::answer::Written;
 ghost use mathlib.Core.Path.{_≡_};
 ghost use mathlib.Core.List.{[]};
 ghost use Prim.Native.Nat.{_<_};
 ghost use lib.ListN.{length};
 ghost use Rattle.reading.specs.Check.{mapAnswer, answer};
+ghost use Rattle.writing.specs.Answer.{written};
 ghost use Rattle.sff_write.specs.Read.{given, Fitting};
-ghost use Rattle.sff_write.specs.Write.{behind, advanced, written, writtenAt, beginning, addingFit, adding, finishing};
+ghost use Rattle.sff_write.specs.Write.{behind, advanced, writtenAt, beginning, addingFit, adding, finishing};
 
 // The state of a file that is being written: the stated number of reads, how many of them are written, how many flows each has, and the place behind what is written.
 pub struct Writer {
@@ -25,12 +27,6 @@ pub struct Writer {
 // The state behind what was written, or the refusal.
 pub enum Advanced {
     To(Writer),
-    Refused(u8),
-}
-
-// The length of the file, or the refusal.
-pub enum Written {
-    Length(usize),
     Refused(u8),
 }
 
@@ -63,7 +59,16 @@ pub fn begin(reads: u32, letters: &[u8], key: &[u8], out: &mut [u8]) -> Advanced
 }
 
 // The read's contents, then the room.
-fn add_fitting(w: Writer, name: &[u8], flows: &[u16], steps: &[u8], letters: &[u8], qualities: &[u8], clips: Clips, out: &mut [u8]) -> Advanced
+fn add_fitting(
+    w: Writer,
+    name: &[u8],
+    flows: &[u16],
+    steps: &[u8],
+    letters: &[u8],
+    qualities: &[u8],
+    clips: Clips,
+    out: &mut [u8],
+) -> Advanced
     requires { ⌜ w .written < w .reads ⌝ }
     requires { ⌜ Fitting (w .flows) (given (now name) (now flows) (now steps) (now letters) (now qualities) clips) ⌝ }
     ensures { λ r. ⌜ (advanced r ≡ mapAnswer behind (answer (addingFit w (given (now (name .entry)) (now (flows .entry)) (now (steps .entry)) (now (letters .entry)) (now (qualities .entry)) clips) (length (now (out .entry)))) [])) × (now (out .exit) ≡ writtenAt (w .at) (answer (addingFit w (given (now (name .entry)) (now (flows .entry)) (now (steps .entry)) (now (letters .entry)) (now (qualities .entry)) clips) (length (now (out .entry)))) []) (now (out .entry))) ⌝ }
@@ -94,7 +99,16 @@ fn add_fitting(w: Writer, name: &[u8], flows: &[u16], steps: &[u8], letters: &[u
 }
 
 // Writes the next read behind what is written.
-pub fn add(w: Writer, name: &[u8], flows: &[u16], steps: &[u8], letters: &[u8], qualities: &[u8], clips: Clips, out: &mut [u8]) -> Advanced
+pub fn add(
+    w: Writer,
+    name: &[u8],
+    flows: &[u16],
+    steps: &[u8],
+    letters: &[u8],
+    qualities: &[u8],
+    clips: Clips,
+    out: &mut [u8],
+) -> Advanced
     ensures { λ r. ⌜ (advanced r ≡ mapAnswer behind (answer (adding w (given (now (name .entry)) (now (flows .entry)) (now (steps .entry)) (now (letters .entry)) (now (qualities .entry)) clips) (length (now (out .entry)))) [])) × (now (out .exit) ≡ writtenAt (w .at) (answer (adding w (given (now (name .entry)) (now (flows .entry)) (now (steps .entry)) (now (letters .entry)) (now (qualities .entry)) clips) (length (now (out .entry)))) []) (now (out .entry))) ⌝ }
 {
     if w.reads <= w.written {

@@ -4,14 +4,13 @@ use Prim.Native.Nat.{ℕ, suc, _+_, _*_, _≤_, _<_}
 use mathlib.Core.Path.{_≡_, refl, sym, _∙_, ap}
 use mathlib.Core.List.{List, []}
 use mathlib.Core.Bool.{Bool, true, false}
-use lib.ListN.{length, getD}
-use borrow.Author.Tests.{le-leb, lt-leb, eq-eqb, ne-eqb}
+use lib.ListN.{length}
+use borrow.Author.Tests.{le-leb, lt-leb, ne-eqb}
 use Rattle.reading.specs.Check.{Check, Answer, ok, refused, answer, holds, done, _>>=_, _>>_}
 use Rattle.reading.specs.Part.{Span}
 use Rattle.reading.proofs.Steps.{after, answer-bind, answer-must, answer-done}
 use Rattle.reading.proofs.Passed.{not-ok}
 use Rattle.abif.specs.Element.{Value}
-use Rattle.abif.specs.Text.{zeroAmong}
 use Rattle.abif_write.specs.Contents.{alone, eachElement, textCheck, contentsCheck, kept}
 
 -- a rule that was tested, and what follows it

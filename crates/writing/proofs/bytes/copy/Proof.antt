@@ -6,8 +6,6 @@ use lib.Seq.{paste, paste-zero}
 use Rattle.writing.proofs.Over.{put-none, copy-next, copy-end}
 use Rattle.writing.proofs.bytes.copy.Statement.{statement}
 use Rattle.writing.proofs.bytes.copy.Tie as tie
-use Rattle.writing.proofs.bytes.copy.Reads as reads
-use Rattle.writing.proofs.bytes.copy.Lts as lts
 
 abbrev Inv-loop : tie.InvT-loop
 Inv-loop out₀ p v i₀ out i = (i ≤ length v) × (out ≡ paste out₀ p v i) × (length out ≡ length out₀)
@@ -15,54 +13,42 @@ Inv-loop out₀ p v i₀ out i = (i ≤ length v) × (out ≡ paste out₀ p v i
 abbrev μ-loop : tie.MeasureT-loop
 μ-loop out₀ p v i₀ out i = length v - i
 
--- src/lib.rt:46:9
 returns : tie.Need-returns Inv-loop μ-loop
 returns c = put-none _ _ _ (omega arith)
 
--- src/lib.rt:48:8
 sub-if2 : tie.Need-sub-if2 Inv-loop μ-loop
 sub-if2 c = omega arith
 
--- src/lib.rt:49:9
 returns-2 : tie.Need-returns-2 Inv-loop μ-loop
 returns-2 c = put-none _ _ _ (omega arith)
 
--- src/lib.rt:52:5
 loop-holds : tie.Need-loop-holds Inv-loop μ-loop
 loop-holds c = (omega arith, paste-zero (c .before .before .args .out .now) (c .before .before .args .p) (c .before .before .args .v .now), refl)
 
--- src/lib.rt:53:22
 shared-slice-read-out : tie.Need-shared-slice-read-out Inv-loop μ-loop
 shared-slice-read-out c = omega arith
 
--- src/lib.rt:53:13
 add-out : tie.Need-add-out Inv-loop μ-loop
 add-out c = omega arith
 
--- src/lib.rt:53:9
 slice-write-out : tie.Need-slice-write-out Inv-loop μ-loop
 slice-write-out c = omega arith
 
--- src/lib.rt:54:9
 add-i : tie.Need-add-i Inv-loop μ-loop
 add-i c = omega arith
 
--- src/lib.rt:52:5
 loop-less : tie.Need-loop-less Inv-loop μ-loop
 loop-less c = omega arith
 
--- src/lib.rt:52:5
 loop-again : tie.Need-loop-again Inv-loop μ-loop
 loop-again c =
     let l = c .before .before .loop in
     let g = c .before .before .before .before .before .args in
     (omega arith, copy-next (g .out .now) (g .p) (g .v .now) _ _ (l .inv .1) (omega arith) (omega arith), simp length-set (l .inv .2))
 
--- src/lib.rt:42:1
 same-length : tie.Need-same-length Inv-loop μ-loop
 same-length c = c .before .loop .inv .2
 
--- src/lib.rt:42:1
 returns-3 : tie.Need-returns-3 Inv-loop μ-loop
 returns-3 c =
     let g = c .before .before .before .before .args in

@@ -5,73 +5,54 @@ use Rattle.writing.proofs.Over.{put-none, put4}
 use borrow.Author.Needs.{needs}
 use Rattle.writing.proofs.number.put32.Statement.{statement}
 use Rattle.writing.proofs.number.put32.Tie as tie
-use Rattle.writing.proofs.number.put32.Reads as reads
-use Rattle.writing.proofs.number.put32.Lts as lts
-use Rattle.writing.proofs.number.low.Reads as low-reads
 
--- src/lib.rt:16:9
 returns : tie.Need-returns
 unfolding digits
 returns c = put-none _ _ _ (omega arith)
 
--- src/lib.rt:18:8
 sub-if2 : tie.Need-sub-if2
 sub-if2 c = search needs
 
--- src/lib.rt:19:9
 returns-2 : tie.Need-returns-2
 unfolding digits
 returns-2 c = put-none _ _ _ (omega arith)
 
--- src/lib.rt:21:14
 low-requires : tie.Need-low-requires
 low-requires c κs = search needs
 
--- src/lib.rt:21:5
 slice-write-out : tie.Need-slice-write-out
 slice-write-out c = search needs
 
--- src/lib.rt:22:18
 low-requires-2 : tie.Need-low-requires-2
 low-requires-2 c κs = search needs
 
--- src/lib.rt:22:9
 add-out : tie.Need-add-out
 add-out c = search needs
 
--- src/lib.rt:22:5
 slice-write-out-2 : tie.Need-slice-write-out-2
 slice-write-out-2 c = simp length-set (omega arith)
 
--- src/lib.rt:23:18
 low-requires-3 : tie.Need-low-requires-3
 low-requires-3 c κs = search needs
 
--- src/lib.rt:23:9
 add-out-2 : tie.Need-add-out-2
 add-out-2 c = search needs
 
--- src/lib.rt:23:5
 slice-write-out-3 : tie.Need-slice-write-out-3
 slice-write-out-3 c = simp length-set (omega arith)
 
--- src/lib.rt:24:18
 low-requires-4 : tie.Need-low-requires-4
 low-requires-4 c κs = search needs
 
--- src/lib.rt:24:9
 add-out-3 : tie.Need-add-out-3
 add-out-3 c = search needs
 
--- src/lib.rt:24:5
 slice-write-out-4 : tie.Need-slice-write-out-4
 slice-write-out-4 c = simp length-set (omega arith)
 
--- src/lib.rt:12:1
 same-length : tie.Need-same-length
 same-length c = search needs
 
--- src/lib.rt:12:1
 returns-3 : tie.Need-returns-3
 returns-3 c =
     put4 _ _ _ _ _ _ _ (omega arith) (c .before .before .before .low .ensures) (c .before .before .low2 .ensures) (c .before .low3 .ensures) (c .low4 .ensures)
