@@ -8,6 +8,7 @@ use native.Mathlib.Nat.{zero-add}
 use native.Mathlib.Omega.{arith}
 use lib.Dec.{leb}
 use lib.ListN.{length, take, drop, getD, length-append}
+use borrow.Author.Count.{below-more}
 use borrow.Author.Tests.{leb-true, leb-false}
 use Rattle.reading.specs.Number.{be}
 use Rattle.reading.specs.Check.{ok, answer, holds}
@@ -119,16 +120,6 @@ module _ (n : ℕ) (letters key : List ℕ) (g : ℕ → Given) where
     fits : headerSize letters key ≤ 65535
     sound : (k : ℕ) → k < m → Sound k
 
-  below-next : (P : ℕ → Type 0) (m : ℕ) → ((k : ℕ) → k < m → P k) → P m → (k : ℕ) → k < suc m → P k
-  below-next P m f p k h = go (leb (suc k) m) refl
-    where
-      go : (b : Bool) → leb (suc k) m ≡ b → P k
-      go true e = f k (leb-true (suc k) m e)
-      go false e =
-          let l : m < suc k = leb-false (suc k) m e in
-          let q : m ≡ k = omega arith in
-          subst P q p
-
   state-begun : (o : List ℕ) (x : Piece) → answer (beginning n letters key (length o)) [] ≡ ok x → State 0 (x .state) (put o 0 (x .bytes))
   unfolding upTo
   state-begun o x h =
@@ -155,7 +146,7 @@ module _ (n : ℕ) (letters key : List ℕ) (g : ℕ → Given) where
         steps = subst (λ (f : ℕ). answer (stepsCheck f (g m .steps) 0 (length (g m .steps))) [] ≡ ok tt) (s .flows) (a .steps);
       } in
       subst (λ (y : Piece). State (suc m) (y .state) (put o (w .at) (y .bytes))) (sym (a .piece))
-      (record { stated = s .stated; count = ap (λ (k : ℕ). k + 1) (s .count) ∙ omega arith; flows = s .flows; place = p; held = t ∙ ap (λ (l : List ℕ). upTo m ++ l) e; fits = s .fits; sound = below-next Sound m (s .sound) z })
+      (record { stated = s .stated; count = ap (λ (k : ℕ). k + 1) (s .count) ∙ omega arith; flows = s .flows; place = p; held = t ∙ ap (λ (l : List ℕ). upTo m ++ l) e; fits = s .fits; sound = λ k h. below-more Sound m (s .sound) z k (omega arith) })
 
   state : (m : ℕ) (w : Writer) (o : List ℕ) → Session n letters key g m w o → State m w o
   state zero w o (begun l x h) = state-begun l x h
