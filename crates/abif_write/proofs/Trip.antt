@@ -2,7 +2,7 @@
 -- Assumes nothing.
 use Prim.Native.Nat.{ℕ, zero, suc, _+_, _-_, _*_, _^_, _≤_, _<_}
 use mathlib.Core.Path.{_≡_, refl, sym, _∙_, ap, subst}
-use mathlib.Core.List.{List, [], _∷_, _++_, append-assoc}
+use mathlib.Core.List.{List, _++_, append-assoc}
 use mathlib.Core.Bool.{Bool, true, false}
 use native.Mathlib.Omega.{arith}
 use lib.Dec.{leb, eqb}
@@ -10,8 +10,9 @@ use lib.IntN.{ℤ, pos, negsuc}
 use lib.Signed.{mag}
 use lib.ListN.{length, take, drop, getD, length-append, length-take, length-drop, replicate, List·getD-eq-default}
 use lib.Seq.{take-at, drop-at, take-all, getD-take, getD-drop}
+use borrow.Author.Needs.{needs}
 use borrow.Author.Tests.{le-leb, lt-leb, eq-eqb, leb-true, leb-false}
-use Rattle.reading.specs.Choice.{pick, among}
+use Rattle.reading.specs.Choice.{pick}
 use Rattle.reading.specs.Number.{be, bits}
 use Rattle.reading.specs.Check.{ok, refused, answer, holds}
 use Rattle.reading.proofs.Signs.{half}
@@ -57,32 +58,7 @@ either-small false x y a b = b
 
 size-small : (k : ℕ) → writtenSize (typeOf k) < 0x8000
 unfolding typeOf writtenSize
-size-small k =
-    either-small (among k (1 ∷ 2 ∷ 13 ∷ 18 ∷ 19 ∷ [])) (Listed 1) r1 (omega arith)
-    (either-small (among k (3 ∷ 4 ∷ [])) (Listed 2) r2 (omega arith)
-    (either-small (among k (5 ∷ 7 ∷ 10 ∷ 11 ∷ [])) (Listed 4) r3 (omega arith)
-    (either-small (among k (8 ∷ [])) (Listed 8) r4 (omega arith)
-    (either-small (among k (12 ∷ [])) (Listed 10) r5 (omega arith)
-    (either-small (among k (6 ∷ 9 ∷ 14 ∷ 15 ∷ 16 ∷ 17 ∷ 20 ∷ 128 ∷ 256 ∷ 384 ∷ [])) Raw r6 (omega arith)
-    (either-small (leb 1024 k) (pick (leb k 32767) Raw Unknown) Unknown (either-small (leb k 32767) Raw Unknown (omega arith) (omega arith)) (omega arith)))))))
-  where
-    r6 : ElementType
-    r6 = pick (leb 1024 k) (pick (leb k 32767) Raw Unknown) Unknown
-
-    r5 : ElementType
-    r5 = pick (among k (6 ∷ 9 ∷ 14 ∷ 15 ∷ 16 ∷ 17 ∷ 20 ∷ 128 ∷ 256 ∷ 384 ∷ [])) Raw r6
-
-    r4 : ElementType
-    r4 = pick (among k (12 ∷ [])) (Listed 10) r5
-
-    r3 : ElementType
-    r3 = pick (among k (8 ∷ [])) (Listed 8) r4
-
-    r2 : ElementType
-    r2 = pick (among k (5 ∷ 7 ∷ 10 ∷ 11 ∷ [])) (Listed 4) r3
-
-    r1 : ElementType
-    r1 = pick (among k (3 ∷ 4 ∷ [])) (Listed 2) r2
+size-small k = search (needs, either-small) depth 12
 
 -- a part of bytes is bytes
 part-bytes : (b : List ℕ) (d : Item) → ((i : ℕ) → getD b i 0 < 256) → (i : ℕ) → getD (part b d) i 0 < 256
