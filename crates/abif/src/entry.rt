@@ -67,6 +67,7 @@ pub(crate) fn has_tag(h: &[u8], p: usize, name: u32, number: u32) -> bool
     false
 }
 
+// The element type that a code stands for.
 pub fn type_of(k: u16) -> ElementType
     ensures { λ r. ⌜ r ≡ typeOf k ⌝ }
 {
