@@ -3,11 +3,10 @@ use abif::text::has_zero;
 use reading::number::byte;
 ghost use mathlib.Core.Path.{_≡_};
 ghost use mathlib.Core.List.{[]};
-ghost use Prim.Native.Nat.{_≤_, _<_};
-ghost use lib.ListN.{length};
+ghost use Prim.Native.Nat.{_<_};
 ghost use Rattle.reading.specs.Check.{answer};
 ghost use Rattle.abif.specs.Element.{dateAt, timeAt};
-ghost use Rattle.abif.specs.Text.{zeroAmong, pString, cString};
+ghost use Rattle.abif.specs.Text.{pString, cString};
 ghost use Rattle.abif_write.specs.Contents.{alone, eachElement, itself, textCheck, contentsCheck, kept};
 
 fn date_holds(p: &[u8], place: usize) -> bool
