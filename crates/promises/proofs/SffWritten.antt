@@ -252,4 +252,5 @@ sff-reads-back n letters key g m w o x lent s h =
     let b = finish-passed w x h in
     let e : m ≡ n = sym (a .count) ∙ b .0 ∙ a .stated in
     let f : upTo n letters key g n ≡ take x o = ap (upTo n letters key g) (sym e) ∙ sym (a .held) ∙ ap (λ (k : ℕ). take k o) (b .1) in
-    (e, subst (ReadsBack n letters key g) f (reads-back n letters key g lent (a .fits) (λ k l. a .sound k (omega arith))))
+    let l : length (take x o) ≡ x = ap length (sym f) ∙ ap (λ (k : ℕ). length (upTo n letters key g k)) (sym e) ∙ sym (a .place) ∙ b .1 in
+    (e, l, subst (ReadsBack n letters key g) f (reads-back n letters key g lent (a .fits) (λ k l. a .sound k (omega arith))))

@@ -72,6 +72,6 @@ pub record Lent (n : ℕ) (g : ℕ → Given) : Type 0 where
   pub reads : n < 4294967296
   pub flows : (k i : ℕ) → getD (g k .flows) i 0 < 65536
 
--- a session that finishing accepts has written the reads g, as many as were stated, into the first x bytes of the output
+-- a session that finishing accepts with the length x has written the reads g, as many as were stated, into the first x bytes of the output, which has them all
 abbrev pub SffReadsBack : Type 0
-SffReadsBack = (n : ℕ) (letters key : List ℕ) (g : ℕ → Given) (m : ℕ) (w : Writer) (o : List ℕ) (x : ℕ) → Lent n g → Session n letters key g m w o → answer (finishing w) [] ≡ ok x → (m ≡ n) × ReadsBack n letters key g (take x o)
+SffReadsBack = (n : ℕ) (letters key : List ℕ) (g : ℕ → Given) (m : ℕ) (w : Writer) (o : List ℕ) (x : ℕ) → Lent n g → Session n letters key g m w o → answer (finishing w) [] ≡ ok x → (m ≡ n) × (length (take x o) ≡ x) × ReadsBack n letters key g (take x o)
