@@ -119,7 +119,7 @@ extent s x w =
     let g = each-end (a .0 .upTo) (a .0 .place) (a .0 .count) 0 (max 128 (a .0 .place + 28 * a .0 .count)) s x (a .2) in
     simp (a .3, f) (omega arith)
 
-directory-under : (s : List ℕ) (x : ℕ) → answer judging s ≡ ok x → reach directory s ≤ x
+pub directory-under : (s : List ℕ) (x : ℕ) → answer judging s ≡ ok x → reach directory s ≤ x
 unfolding judging
 directory-under s x w =
     let a = bind-ok directory _ s x w in

@@ -6,11 +6,12 @@ use reading::number::be32;
 use reading::number::signed16;
 use reading::number::signed32;
 ghost use mathlib.Core.Path.{_≡_};
-ghost use Prim.Native.Nat.{_+_, _<_};
+ghost use Prim.Native.Nat.{_+_, _*_};
 ghost use Rattle.reading.specs.Check.{answer};
 ghost use Rattle.abif.specs.Listing.{rawEntry, entryReading, listed};
 
-// A directory entry as it stands in the file, signed where the format is.
+// A directory entry as it stands in the file, signed where the format is; C programs lend lists of these.
+#[repr(C)]
 pub struct RawEntry {
     pub name: u32,
     pub number: i32,
@@ -28,10 +29,11 @@ pub enum Listed {
     Refused(u8),
 }
 
-fn raw_entry(h: &[u8], p: usize) -> RawEntry
-    requires { ⌜ p < 0x8000000000000000 ⌝ }
-    ensures { λ r. ⌜ r ≡ rawEntry (now (h .entry)) p ⌝ }
+// Entry i, from nought, of a directory at this place; bytes that are not there read as zeros.
+pub fn raw_entry(h: &[u8], place: u32, i: u32) -> RawEntry
+    ensures { λ r. ⌜ r ≡ rawEntry (now (h .entry)) (place + 28 * i) ⌝ }
 {
+    let p = place as usize + 28 * i as usize;
     RawEntry {
         name: be32(h, p),
         number: signed32(be32(h, p + 4)),
@@ -58,8 +60,8 @@ pub fn entry(s: &[u8], index: u64) -> Listed
                 return Listed::Refused(7);
             }
             let end = place as usize + 28 * count as usize;
-            let p = place as usize + 28 * (index - 1) as usize;
-            Listed::At(raw_entry(&s[..end], p))
+            let i = (index - 1) as u32;
+            Listed::At(raw_entry(&s[..end], place, i))
         }
     }
 }

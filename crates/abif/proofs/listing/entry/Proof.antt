@@ -48,14 +48,8 @@ mul-end c = search needs
 add-end : tie.Need-add-end
 add-end c = search needs
 
-cast-p : tie.Need-cast-p
-cast-p c = search needs
-
-mul-p : tie.Need-mul-p
-mul-p c = search needs
-
-add-p : tie.Need-add-p
-add-p c = search needs
+cast-i : tie.Need-cast-i
+cast-i c = search needs
 
 slice-aggregate-raw-entry : tie.Need-slice-aggregate-raw-entry
 slice-aggregate-raw-entry c =
@@ -96,9 +90,7 @@ entry-spec =
     cast-end-2
     mul-end
     add-end
-    cast-p
-    mul-p
-    add-p
+    cast-i
     slice-aggregate-raw-entry
     raw-entry-requires
     returns-3

@@ -5,6 +5,12 @@ use Rattle.abif.specs.Listing.{rawEntry}
 use Rattle.abif.proofs.listing.raw_entry.Statement.{statement}
 use Rattle.abif.proofs.listing.raw_entry.Tie as tie
 
+mul-p : tie.Need-mul-p
+mul-p c = search needs
+
+add-p : tie.Need-add-p
+add-p c = search needs
+
 be32-requires : tie.Need-be32-requires
 be32-requires c κs = search needs
 
@@ -95,6 +101,8 @@ pub raw-entry-spec : {M : Type 1} → statement M
 raw-entry-spec =
     tie.close
     (tie.spec
+    mul-p
+    add-p
     be32-requires
     add-be32
     be32-requires-2
