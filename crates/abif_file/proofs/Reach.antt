@@ -1,0 +1,21 @@
+-- What listing and the calls of an opened file need: no more than the extent.
+-- Assumes nothing.
+use Prim.Native.Nat.{ℕ, _≤_}
+use mathlib.Core.Path.{_≡_}
+use mathlib.Core.List.{List}
+use Rattle.reading.specs.Check.{Check, ok, answer, reach}
+use Rattle.reading.proofs.Reach.{reach-under, reach-must-under, reach-done-under}
+use Rattle.abif.specs.Judge.{judging}
+use Rattle.abif.proofs.Reach.{directory-under}
+use Rattle.abif_file.specs.List.{listing}
+use Rattle.abif_file.specs.Opened.{sameDirectory, ofOpened}
+
+module _ (s : List ℕ) (x : ℕ) (w : answer judging s ≡ ok x) where
+  pub listing-under : (room : ℕ) → reach (listing room) s ≤ x
+  unfolding listing
+  listing-under room = reach-under x _ _ s (directory-under s x w) (λ _ _. reach-under x _ _ s (reach-must-under x _ _ _ s) (λ _ _. reach-done-under x _ s))
+
+  -- a later call needs no more where the call itself does not
+  pub opened-under : {A : Type 0} (p n : ℕ) (t : Check A) → reach t s ≤ x → reach (ofOpened p n t) s ≤ x
+  unfolding ofOpened sameDirectory
+  opened-under p n t h = reach-under x _ _ s (reach-under x _ _ s (directory-under s x w) (λ _ _. reach-under x _ _ s (reach-must-under x _ _ _ s) (λ _ _. reach-must-under x _ _ _ s))) (λ _ _. h)

@@ -1,0 +1,33 @@
+use mathlib.Core.Path.{_∙_}
+use Rattle.abif_file.proofs.opened.Laws.{later-refused, later-same}
+use Rattle.abif.specs.Text.{textReading}
+use borrow.Author.Needs.{needs}
+use Rattle.abif_file.proofs.opened.read_text.Statement.{statement}
+use Rattle.abif_file.proofs.opened.read_text.Tie as tie
+
+same-directory-requires : tie.Need-same-directory-requires
+same-directory-requires c κs = search needs
+
+enum-known-n : tie.Need-enum-known-n
+enum-known-n c = search needs
+
+enum-told : tie.Need-enum-told
+enum-told c = search needs
+
+read-text-requires : tie.Need-read-text-requires
+read-text-requires c κs = search needs
+
+returns : tie.Need-returns
+returns c = let o = c .before .before .before in
+    let g = o .before .before .args in
+    later-refused (g .place) (g .count) (textReading (g .name) (g .number)) (g .s .now) _ (o .same-directory .ensures) _ (c .before .n .given .1)
+
+returns-2 : tie.Need-returns-2
+returns-2 c = let o = c .before .before .before in
+    let g = o .before .before .args in
+    c .read-text .ensures ∙ later-same (g .place) (g .count) (textReading (g .name) (g .number)) (g .s .now) _ (o .same-directory .ensures) (c .before .enum-told .given .1)
+
+pub read-text-spec : {M : Type 1} → statement M
+read-text-spec =
+    tie.close
+    (tie.spec same-directory-requires enum-known-n enum-told read-text-requires returns returns-2)

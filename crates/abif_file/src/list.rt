@@ -1,0 +1,72 @@
+// The raw entries of the directory, into a list of records that the caller lends.
+use abif::directory::Opened;
+use abif::directory::open;
+use abif::listing::RawEntry;
+use abif::listing::raw_entry;
+use abif::numbers::Copied;
+use reading::number::be32;
+ghost use mathlib.Core.Path.{_≡_};
+ghost use mathlib.Core.List.{_++_};
+ghost use Prim.Native.Nat.{_+_, _*_, _≤_, _<_};
+ghost use lib.ListN.{length, drop};
+ghost use Rattle.reading.specs.Number.{be};
+ghost use Rattle.reading.specs.Check.{answer, mapAnswer};
+ghost use Rattle.reading.specs.Lent.{filled};
+ghost use Rattle.abif.specs.Listing.{rawEntry};
+ghost use Rattle.abif.specs.Numbers.{copied};
+ghost use Rattle.abif_file.specs.List.{rawEntries, listing, toList};
+
+// Entry i, from nought, of the directory whose place the header tells.
+fn entry_at(s: &[u8], i: usize) -> RawEntry
+    requires { ⌜ i < 0x100000000 ⌝ }
+    ensures { λ r. ⌜ r ≡ rawEntry (now (s .entry)) (be 4 (now (s .entry)) 26 + 28 * i) ⌝ }
+{
+    raw_entry(s, be32(s, 26), i as u32)
+}
+
+// The first n entries, each at its place in the list; the records past them stay.
+pub(crate) fn fill(s: &[u8], out: &mut [RawEntry], n: usize)
+    requires { ⌜ (n ≤ length (now out)) × (n < 0x100000000) ⌝ }
+    ensures { λ _. ⌜ now (out .exit) ≡ rawEntries (now (s .entry)) (be 4 (now (s .entry)) 26) n ++ drop n (now (out .entry)) ⌝ }
+{
+    let mut i = 0;
+    while i < n {
+        out[i] = entry_at(s, i);
+        i += 1;
+    }
+}
+
+// What a list of this room is told.
+pub(crate) fn list_answer(s: &[u8], room: usize) -> Copied
+    ensures { λ r. ⌜ copied r ≡ mapAnswer length (answer (listing room) (now (s .entry))) ⌝ }
+{
+    match open(s) {
+        Opened::Refused(n) => Copied::Refused(n),
+        Opened::At { place, count } => {
+            if room < count as usize {
+                return Copied::Refused(13);
+            }
+            Copied::Count(count as u64)
+        }
+    }
+}
+
+// How many entries a list gets whose call is answered so: none where it is refused.
+pub(crate) fn to_list(r: Copied) -> usize
+    ensures { λ n. ⌜ n ≡ toList (copied r) ⌝ }
+{
+    match r {
+        Copied::Refused(_) => 0,
+        Copied::Count(n) => n as usize,
+    }
+}
+
+// All entries, in file order, at the front of the lent list, or a refusal that leaves it as it was.
+pub fn list(s: &[u8], out: &mut [RawEntry]) -> Copied
+    ensures { λ r. ⌜ (copied r ≡ mapAnswer length (answer (listing (length (now (out .entry)))) (now (s .entry))))
+        × (now (out .exit) ≡ filled (answer (listing (length (now (out .entry)))) (now (s .entry))) (now (out .entry))) ⌝ }
+{
+    let r = list_answer(s, out.len());
+    fill(s, out, to_list(r));
+    r
+}
