@@ -15,7 +15,11 @@ module _ (s : List ℕ) (x : ℕ) (w : answer judging s ≡ ok x) where
   unfolding listing
   listing-under room = reach-under x _ _ s (directory-under s x w) (λ _ _. reach-under x _ _ s (reach-must-under x _ _ _ s) (λ _ _. reach-done-under x _ s))
 
+  same-under : (p n : ℕ) → reach (sameDirectory p n) s ≤ x
+  unfolding sameDirectory
+  same-under p n = reach-under x _ _ s (directory-under s x w) (λ _ _. reach-under x _ _ s (reach-must-under x _ _ _ s) (λ _ _. reach-must-under x _ _ _ s))
+
   -- a later call needs no more where the call itself does not
   pub opened-under : {A : Type 0} (p n : ℕ) (t : Check A) → reach t s ≤ x → reach (ofOpened p n t) s ≤ x
-  unfolding ofOpened sameDirectory
-  opened-under p n t h = reach-under x _ _ s (reach-under x _ _ s (directory-under s x w) (λ _ _. reach-under x _ _ s (reach-must-under x _ _ _ s) (λ _ _. reach-must-under x _ _ _ s))) (λ _ _. h)
+  unfolding ofOpened
+  opened-under p n t h = search (reach-under, same-under, h) depth 6

@@ -16,9 +16,7 @@ sameDirectory p n = do
 
 -- a later call t of a file that was opened with place p and count n
 unfoldable pub ofOpened : {A : Type 0} → ℕ → ℕ → Check A → Check A
-ofOpened p n t = do
-  sameDirectory p n
-  t
+ofOpened p n t = sameDirectory p n >> t
 
 -- the answer of document 01 that each case stands for
 abbrev pub reopened : Reopened → Answer (Unit {0})
