@@ -76,7 +76,7 @@ pub extern "C" fn jt_abif_open(s: &[u8]) -> Opened
     as_opened(directory::open(s))
 }
 
-fn as_item(f: lookup::Found) -> Item
+pub(crate) fn as_item(f: lookup::Found) -> Item
     ensures { λ r. ⌜ r ≡ asItem (found f) ⌝ }
 {
     match f {
@@ -197,7 +197,7 @@ fn refused_element(refusal: u8) -> Element
     }
 }
 
-fn as_element(e: element::Element) -> Element
+pub(crate) fn as_element(e: element::Element) -> Element
     ensures { λ r. ⌜ r ≡ asElement (elementAnswer e) ⌝ }
 {
     match e {
@@ -242,7 +242,7 @@ pub extern "C" fn jt_abif_element(s: &[u8], name: u32, number: i32, index: u64) 
     as_element(element::read_element(s, name, bits, index))
 }
 
-fn as_part(t: text::Text) -> Part
+pub(crate) fn as_part(t: text::Text) -> Part
     ensures { λ r. ⌜ r ≡ asPart (textAnswer t) ⌝ }
 {
     match t {
@@ -267,7 +267,7 @@ pub extern "C" fn jt_abif_text(s: &[u8], name: u32, number: i32) -> Part
     as_part(text::read_text(s, name, bits))
 }
 
-fn as_listed(n: numbers::Copied) -> Listed
+pub(crate) fn as_listed(n: numbers::Copied) -> Listed
     ensures { λ r. ⌜ r ≡ asListed (copied n) ⌝ }
 {
     match n {

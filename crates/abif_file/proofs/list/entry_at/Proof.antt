@@ -4,24 +4,16 @@ use borrow.Author.Needs.{needs}
 use Rattle.abif.specs.Listing.{rawEntry}
 use Rattle.abif_file.proofs.list.entry_at.Statement.{statement}
 use Rattle.abif_file.proofs.list.entry_at.Tie as tie
-use Rattle.abif_file.proofs.list.entry_at.Reads as reads
-use Rattle.abif_file.proofs.list.entry_at.Lts as lts
-use Rattle.abif.proofs.listing.raw_entry.Reads as raw-entry-reads
-use Rattle.reading.proofs.number.be32.Reads as be32-reads
 
--- src/list.rt:24:18
 be32-requires : tie.Need-be32-requires
 be32-requires c κs = search needs
 
--- src/list.rt:24:31
 cast-raw-entry : tie.Need-cast-raw-entry
 cast-raw-entry c = search needs
 
--- src/list.rt:24:5
 raw-entry-requires : tie.Need-raw-entry-requires
 raw-entry-requires c κs = search needs
 
--- src/list.rt:20:1
 returns : tie.Need-returns
 returns c = c .raw-entry .ensures ∙ ap (λ (p : ℕ). rawEntry (c .before .before .before .args .s .now) (p + 28 * c .before .before .before .args .i)) (c .before .be32 .ensures)
 

@@ -8,27 +8,19 @@ use Rattle.abif_file.specs.List.{listing}
 use Rattle.abif_file.proofs.list.Laws.{list-over, list-all}
 use Rattle.abif_file.proofs.list.list_answer.Statement.{statement}
 use Rattle.abif_file.proofs.list.list_answer.Tie as tie
-use Rattle.abif_file.proofs.list.list_answer.Reads as reads
-use Rattle.abif_file.proofs.list.list_answer.Lts as lts
-use Rattle.abif.proofs.directory.open.Reads as open-reads
 
--- src/list.rt:43:11
 open-requires : tie.Need-open-requires
 open-requires c κs = search needs
 
--- src/list.rt:44:25
 enum-known-n : tie.Need-enum-known-n
 enum-known-n c = search needs
 
--- src/list.rt:45:22
 enum-known-place : tie.Need-enum-known-place
 enum-known-place c = search needs
 
--- src/list.rt:46:23
 cast-if1 : tie.Need-cast-if1
 cast-if1 c = search needs
 
--- src/list.rt:47:17
 returns : tie.Need-returns
 returns c =
     let a = c .before .before in
@@ -36,11 +28,9 @@ returns c =
     let g = o .before .before .args in
     list-over (g .room) (g .s .now) _ _ (sym (o .open .ensures) ∙ ap opened (a .place .given .1)) (c .if1 .taken)
 
--- src/list.rt:49:27
 cast-t10 : tie.Need-cast-t10
 cast-t10 c = search needs
 
--- src/list.rt:40:1
 returns-2 : tie.Need-returns-2
 unfolding listing
 returns-2 c =
@@ -49,7 +39,6 @@ returns-2 c =
     let g = o .before .before .args in
     ap (mapAnswer length) (after-refused _ (g .s .now) _ (sym (o .open .ensures) ∙ ap opened (a .n .given .1)))
 
--- src/list.rt:40:1
 returns-3 : tie.Need-returns-3
 returns-3 c =
     let a = c .before .before in
