@@ -7,7 +7,7 @@ ghost use lib.Dec.{leb};
 ghost use lib.ListN.{length};
 ghost use Rattle.reading.specs.Choice.{pick};
 ghost use Rattle.reading.specs.Check.{answer, ok, refused};
-ghost use Rattle.sff.specs.Steps.{stepsCheck, stepSum};
+ghost use Rattle.sff.specs.Steps.{stepsCheck, stepSum, SumUpTo};
 
 fn wide(b: u8) -> u16
     ensures { λ r. ⌜ (r ≡ b) × (r < 256) ⌝ }
@@ -40,26 +40,11 @@ fn chunk_end(at: usize, n: usize) -> usize
     at + 256
 }
 
-pub(crate) fn sum_of(steps: &[u8]) -> u64
-    requires { ⌜ length (now steps) < 0x100000000 ⌝ }
-    ensures { λ r. ⌜ r ≡ stepSum (now (steps .entry)) 0 (length (now (steps .entry))) ⌝ }
+// The sum of the steps where it is not past the most, else a number past it: from there on nothing is added.
+fn sum_up_to(most: u64, steps: &[u8]) -> u64
+    requires { ⌜ most < 0x8000000000000000 ⌝ }
+    ensures { λ r. ⌜ SumUpTo most (now (steps .entry)) r ⌝ }
 {
-    let n = steps.len();
-    let mut sum = 0;
-    let mut at = 0;
-    while at < n {
-        let end = chunk_end(at, n);
-        sum += chunk_sum(&steps[at..end]) as u64;
-        at = end;
-    }
-    sum
-}
-
-// The sum of the steps is not past the flows.
-fn sum_within(flows: u16, steps: &[u8]) -> bool
-    ensures { λ r. ⌜ r ≡ leb (stepSum (now (steps .entry)) 0 (length (now (steps .entry)))) flows ⌝ }
-{
-    let most = flows as u64;
     let n = steps.len();
     let mut sum = 0;
     let mut at = 0;
@@ -67,11 +52,26 @@ fn sum_within(flows: u16, steps: &[u8]) -> bool
         let end = chunk_end(at, n);
         sum += chunk_sum(&steps[at..end]) as u64;
         if most < sum {
-            return false;
+            return sum;
         }
         at = end;
     }
-    true
+    sum
+}
+
+pub(crate) fn sum_of(steps: &[u8]) -> u64
+    requires { ⌜ length (now steps) < 0x100000000 ⌝ }
+    ensures { λ r. ⌜ r ≡ stepSum (now (steps .entry)) 0 (length (now (steps .entry))) ⌝ }
+{
+    sum_up_to(0x1000000000000, steps)
+}
+
+// The sum of the steps is not past the flows.
+fn sum_within(flows: u16, steps: &[u8]) -> bool
+    ensures { λ r. ⌜ r ≡ leb (stepSum (now (steps .entry)) 0 (length (now (steps .entry)))) flows ⌝ }
+{
+    let most = flows as u64;
+    sum_up_to(most, steps) <= most
 }
 
 // The first step is at least 1, and no running sum passes the flows: sums never fall, so the last one tells.

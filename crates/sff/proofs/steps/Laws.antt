@@ -1,6 +1,6 @@
 -- The flow steps of a read, from the steps one by one; and the steps of a part, where the code reads them.
 -- Assumes nothing.
-use Prim.Native.Nat.{ℕ, zero, suc, _+_, _-_, _≤_, _<_}
+use Prim.Native.Nat.{ℕ, zero, suc, _+_, _-_, _*_, _≤_, _<_}
 use mathlib.Core.Path.{_≡_, refl, sym, _∙_, ap}
 use mathlib.Core.List.{List}
 use mathlib.Core.Bool.{Bool, true, false}
@@ -15,7 +15,7 @@ use Rattle.reading.specs.Check.{ok, refused, answer, holds}
 use Rattle.reading.proofs.Loop.{Left}
 use Rattle.reading.proofs.Steps.{answer-bind, answer-must}
 use Rattle.reading.proofs.Width.{be-in-part, be-taken}
-use Rattle.sff.specs.Steps.{flowStep, sumsWithin, stepsCheck, stepSum}
+use Rattle.sff.specs.Steps.{flowStep, sumsWithin, stepsCheck, stepSum, SumUpTo}
 
 -- steps with the sum t, then m more
 pub sum-start : (l : List ℕ) (n : ℕ) → Left (λ m. 0 + stepSum l 0 m) n 0 (stepSum l 0 n)
@@ -129,3 +129,19 @@ module _ (f : ℕ) (l s : List ℕ) (p n : ℕ) where
     steps-on h v q =
         let e : sumsWithin f l p 0 n ≡ v = sums-total f l p 0 n (omega arith) ∙ ap (λ (k : ℕ). leb k f) (zero-add (stepSum l p n)) ∙ sym q in
         simp (answer-bind, answer-must, ne-eqb n 0 k, ← eb, e, le-leb 1 b h)
+
+-- a sum that stops past the most: that of few steps does not stop, and a stopped one is past the most as the whole is
+module _ (most r : ℕ) (l : List ℕ) (u : SumUpTo most l r) where
+  pub sum-whole : 65536 * length l < most → r ≡ stepSum l 0 (length l)
+  sum-whole h = go (leb (stepSum l 0 (length l)) most) refl
+    where
+      go : (b : Bool) → leb (stepSum l 0 (length l)) most ≡ b → r ≡ stepSum l 0 (length l)
+      go true q = u .all (leb-true _ _ q)
+      go false q = absurd (omega (arith, u .past (leb-false (stepSum l 0 (length l)) most q), u .small))
+
+  pub sum-tells : leb r most ≡ leb (stepSum l 0 (length l)) most
+  sum-tells = go (leb (stepSum l 0 (length l)) most) refl
+    where
+      go : (b : Bool) → leb (stepSum l 0 (length l)) most ≡ b → leb r most ≡ b
+      go true q = rw (u .all (leb-true _ _ q)) q
+      go false q = lt-leb r most (u .past (leb-false (stepSum l 0 (length l)) most q))

@@ -1,82 +1,13 @@
-use Prim.Native.Nat.{_+_, _-_, _≤_}
-use mathlib.Core.Path.{_≡_, sym}
-use native.Mathlib.Omega.{arith}
-use lib.ListN.{length, length-take, length-drop}
+use Rattle.sff.proofs.steps.Laws.{sum-tells}
 use borrow.Author.Needs.{needs}
-use borrow.Author.Tests.{le-leb, lt-leb}
-use Rattle.sff.specs.Steps.{stepSum}
-use Rattle.sff.proofs.steps.Laws.{sum-begin, sum-chunk, sum-all}
 use Rattle.sff.proofs.steps.sum_within.Statement.{statement}
 use Rattle.sff.proofs.steps.sum_within.Tie as tie
 
-abbrev Inv-loop : tie.InvT-loop
-Inv-loop flows steps most n sum₀ at₀ sum at = (at ≤ n) × (sum ≤ most) × (sum + stepSum steps at (n - at) ≡ stepSum steps 0 n)
+sum-up-to-requires : tie.Need-sum-up-to-requires
+sum-up-to-requires c κs = search needs
 
-abbrev μ-loop : tie.MeasureT-loop
-μ-loop flows steps most n sum₀ at₀ sum at = n - at
-
-loop-holds : tie.Need-loop-holds Inv-loop μ-loop
-loop-holds c = (omega arith, omega arith, sum-begin (c .before .args .steps .now) _)
-
-chunk-end-requires : tie.Need-chunk-end-requires Inv-loop μ-loop
-chunk-end-requires c κs = search needs
-
-sub-chunk-sum : tie.Need-sub-chunk-sum Inv-loop μ-loop
-sub-chunk-sum c = search needs
-
-part-chunk-sum-start : tie.Need-part-chunk-sum-start Inv-loop μ-loop
-part-chunk-sum-start c = search needs
-
-part-chunk-sum-end : tie.Need-part-chunk-sum-end Inv-loop μ-loop
-part-chunk-sum-end c = search needs
-
-chunk-sum-requires : tie.Need-chunk-sum-requires Inv-loop μ-loop
-chunk-sum-requires c κs = simp (length-take, length-drop) (omega arith)
-
-cast-sum : tie.Need-cast-sum Inv-loop μ-loop
-cast-sum c = search needs
-
-add-sum : tie.Need-add-sum Inv-loop μ-loop
-add-sum c = omega arith
-
-returns : tie.Need-returns Inv-loop μ-loop
-returns c =
-    let l = c .before .before .before .before .before .loop in
-    let g = c .before .before .before .before .before .before .before .args in
-    let w = sum-chunk (g .steps .now) (l .at) (c .before .before .before .chunk-end .result) _ (l .sum) (c .before .chunk-sum .result) _ (omega arith) (omega arith) (omega arith) (l .inv .2) (c .before .chunk-sum .ensures) in
-    sym (lt-leb (stepSum (g .steps .now) 0 (length (g .steps .now))) (g .flows) (omega arith))
-
-loop-less : tie.Need-loop-less Inv-loop μ-loop
-loop-less c = omega arith
-
-loop-again : tie.Need-loop-again Inv-loop μ-loop
-loop-again c =
-    let l = c .before .before .before .before .before .loop in
-    let g = c .before .before .before .before .before .before .before .args in
-    (omega arith, omega arith, sum-chunk (g .steps .now) (l .at) (c .before .before .before .chunk-end .result) _ (l .sum) (c .before .chunk-sum .result) _ (omega arith) (omega arith) (omega arith) (l .inv .2) (c .before .chunk-sum .ensures))
-
-returns-2 : tie.Need-returns-2 Inv-loop μ-loop
-returns-2 c =
-    let l = c .before .loop in
-    let g = c .before .before .before .args in
-    let w = sum-all (g .steps .now) (l .at) _ (l .sum) _ (omega arith) (l .inv .2) in
-    sym (le-leb (stepSum (g .steps .now) 0 (length (g .steps .now))) (g .flows) (omega arith))
+returns : tie.Need-returns
+returns c = sum-tells (c .before .before .args .flows) (c .sum-up-to .result) (c .before .before .args .steps .now) (c .sum-up-to .ensures)
 
 pub sum-within-spec : {M : Type 1} → statement M
-sum-within-spec =
-    tie.close
-    (tie.spec
-    Inv-loop
-    μ-loop
-    loop-holds
-    chunk-end-requires
-    sub-chunk-sum
-    part-chunk-sum-start
-    part-chunk-sum-end
-    chunk-sum-requires
-    cast-sum
-    add-sum
-    returns
-    loop-less
-    loop-again
-    returns-2)
+sum-within-spec = tie.close (tie.spec sum-up-to-requires returns)
