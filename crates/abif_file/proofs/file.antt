@@ -1,2 +1,2 @@
-mod Apart
+pub mod Apart
 mod Tagged

@@ -2,8 +2,9 @@
 use crate::answers::Listed;
 use crate::jt_abif::as_listed;
 use abif::listing::RawEntry;
+use abif_file::file;
+use abif_file::file::AbifFile;
 use abif_file::list;
-use abif_file::opened;
 ghost use mathlib.Core.Path.{_≡_};
 ghost use lib.ListN.{length};
 ghost use Rattle.reading.specs.Check.{answer, mapAnswer};
@@ -32,5 +33,12 @@ pub extern "C" fn jt_abif_list_opened(
     ensures { λ r. ⌜ (r ≡ asListed (mapAnswer length (answer (ofOpened place count (listing (length (now (out .entry))))) (now (s .entry)))))
         × (now (out .exit) ≡ filled (answer (ofOpened place count (listing (length (now (out .entry))))) (now (s .entry))) (now (out .entry))) ⌝ }
 {
-    as_listed(opened::list(s, place, count, out))
+    as_listed(file::list(
+        AbifFile {
+            bytes: s,
+            place,
+            count,
+        },
+        out,
+    ))
 }

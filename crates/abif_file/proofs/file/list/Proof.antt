@@ -103,7 +103,7 @@ module _ {M : Type 1} (𝓤 : URA M) (H : Heap 𝓤) (A : Atoms 𝓤) (W : Given
   args = (d .bytes, (d .place, (d .count, (x, tt))))
 
   abbrev passed : Vals step.signature (κ, (κ′, tt))
-  passed = (bytesVal κ d ∷ [], (vint w64 (d .place) ∷ [], (vint w64 (d .count) ∷ [], (w ∷ [], tt))))
+  passed = (bytesVal (d .bytes) ∷ [], (vint w64 (d .place) ∷ [], (vint w64 (d .count) ∷ [], (w ∷ [], tt))))
 
   abbrev to : Step 𝓤 H A mem run .Ghost
   to = (((κ, (κ′, tt)), (q, (q′, tt)), tt, args, passed), tt)
@@ -115,7 +115,7 @@ module _ {M : Type 1} (𝓤 : URA M) (H : Heap 𝓤) (A : Atoms 𝓤) (W : Given
   apart : d .place < 2 ^ 64 → d .count < 2 ^ 64 → ent 𝓤 (onEntry 𝓤 H A list′.signature (κ, (κ′, tt)) (q, (q′, tt)) a vals) (sep 𝓤 (Step 𝓤 H A mem run .pre to) (sem 𝓤 H A (FileOwn κ d)))
   apart p-fits c-fits =
       qed W ((‵ (flft κ q) ⊛ (‵ (flft κ′ q′) ⊛ ‵ ftrue)) ∷ ‵ (owns (B (κ, (κ′, tt)) ∷ MutSlice (named 1) κ′ E ∷ []) a vals) ∷ []) ∵
-      move ! (1 ∷ []) $ fsplit ! $ use1 W (‵ (BytesOwn κ d) ⊛ ‵ (FileOwn κ d)) (bytes-out κ d 𝓤 H A W) $ split ! $
+      move ! (1 ∷ []) $ fsplit ! $ use1 W (‵ (BytesOwn κ (d .bytes)) ⊛ ‵ (FileOwn κ d)) (bytes-out κ d 𝓤 H A W) $ split ! $
       -- [what the bytes own; what the struct owns; what the list owns, and true; the tokens]
       move ! (2 ∷ []) $ owned ! u64 (Is u64) (uint-makes 𝓤 H A W w64) (d .count) _ (refl, c-fits) $ fjoin ! $
       owned ! u64 (Is u64) (uint-makes 𝓤 H A W w64) (d .place) _ (refl, p-fits) $ fjoin ! $ move ! (1 ∷ 0 ∷ []) $ fjoin ! $
