@@ -89,6 +89,19 @@ typedef struct jt_part {
     uint64_t length;
 } jt_part;
 
+/* A directory entry as it stands in the file. Its fields need not agree with each other or with the file; where the
+   item's data are 4 bytes or fewer, they are the bytes of `data_offset` in the file. */
+typedef struct jt_entry {
+    uint32_t name;
+    int32_t number;
+    int16_t type;
+    int16_t element_size;
+    int32_t count;
+    int32_t data_size;
+    int32_t data_offset;
+    int32_t data_handle;
+} jt_entry;
+
 /* How many elements were written to the lent output. */
 typedef struct jt_listed {
     uint64_t refusal;
@@ -217,10 +230,25 @@ jt_element jt_abif_element(const uint8_t *bytes, size_t len, uint32_t name, int3
 /* Where the text of the pString or cString with this tag stands, without its length byte or closing zero. */
 jt_part jt_abif_text(const uint8_t *bytes, size_t len, uint32_t name, int32_t number);
 
+/* All entries of the directory, in file order, at the front of `entries`; they are not judged. Refusals: those of
+   jt_abif_open, 13. Refused, `entries` is unchanged; else it is unchanged behind the last entry. */
+jt_listed jt_abif_list(const uint8_t *bytes, size_t len, jt_entry *entries, size_t room);
+
 /* The elements of the item with this tag from number `first` on, as many as are left, at the front of `out`. Refusals:
    the lookup's, 10 for a type whose elements are not whole numbers, 12, 13. Refused, `out` is unchanged. */
 jt_listed jt_abif_whole_numbers(const uint8_t *bytes, size_t len, uint32_t name, int32_t number, uint64_t first,
                                 int64_t *out, size_t room);
+
+/* Lookup, element, text and list of an opened file: its bytes with the place and count that jt_abif_open gave for them.
+   Refusals: those of jt_abif_open, 4 for another place or count; then all is as in the call without `_opened`. */
+jt_item jt_abif_lookup_opened(const uint8_t *bytes, size_t len, uint64_t place, uint64_t count, uint32_t name,
+                              int32_t number);
+jt_element jt_abif_element_opened(const uint8_t *bytes, size_t len, uint64_t place, uint64_t count, uint32_t name,
+                                  int32_t number, uint64_t index);
+jt_part jt_abif_text_opened(const uint8_t *bytes, size_t len, uint64_t place, uint64_t count, uint32_t name,
+                            int32_t number);
+jt_listed jt_abif_list_opened(const uint8_t *bytes, size_t len, uint64_t place, uint64_t count, jt_entry *entries,
+                              size_t room);
 
 /* Writes an ABIF file of these items, in this order, to the front of `out`. The lists have one element for each item:
    the name and number of its tag, its type, its number of elements, and the start and length of its data in `data`,

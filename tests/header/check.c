@@ -1,5 +1,5 @@
 /* The header fits the archive: sizes of the structs, and each call on the files W2 and W7 to W11 of document 01, of
-   which W2, W7 and W8 are also written. */
+   which W2, W7 and W8 are also written; listing on W2 with a second entry. */
 #include "jintarueng.h"
 
 #include <stddef.h>
@@ -67,6 +67,21 @@ FIELD(jt_sff_writer, reads, 1);
 FIELD(jt_sff_writer, written, 2);
 FIELD(jt_sff_writer, flows, 3);
 FIELD(jt_sff_writer, at, 4);
+
+/* A field of so many bytes stands at this place of an entry, as it does in the file. */
+#define ENTRY_FIELD(name, place, size)                                                                                 \
+    _Static_assert(offsetof(jt_entry, name) == (place) && sizeof(((jt_entry *)0)->name) == (size), #name)
+
+ENTRY_FIELD(name, 0, 4);
+ENTRY_FIELD(number, 4, 4);
+ENTRY_FIELD(type, 8, 2);
+ENTRY_FIELD(element_size, 10, 2);
+ENTRY_FIELD(count, 12, 4);
+ENTRY_FIELD(data_size, 16, 4);
+ENTRY_FIELD(data_offset, 20, 4);
+ENTRY_FIELD(data_handle, 24, 4);
+FIELD(jt_listed, refusal, 0);
+FIELD(jt_listed, count, 1);
 
 /* A field of 32 bits stands at this place of a transformation. */
 #define TRANSFORMATION_FIELD(name, place)                                                                              \
@@ -178,6 +193,7 @@ static void check_sizes(void) {
     check(sizeof(jt_item) == 40, "size of jt_item");
     check(sizeof(jt_part) == 24, "size of jt_part");
     check(sizeof(jt_listed) == 16, "size of jt_listed");
+    check(sizeof(jt_entry) == 28, "size of jt_entry");
     check(sizeof(jt_element) == 64, "size of jt_element");
     check(sizeof(struct jt_sff_header) == 72, "size of struct jt_sff_header");
     check(sizeof(struct jt_sff_read) == 136, "size of struct jt_sff_read");
@@ -313,6 +329,119 @@ static void check_refusals(const uint8_t *file, size_t len) {
     check(jt_abif_judge(NULL, 0).refusal == 1, "judging no bytes");
     check(jt_abif_lookup(file, len, ABCD, -1).refusal == 7, "a tag that is not there");
     check(jt_abif_whole_numbers(file, len, ABCD, 1, 1, NULL, 0).refusal == 13, "an output with no room");
+}
+
+/* Two entries behind one another, the second of which is sound in no field. */
+static size_t make_two_entries(uint8_t *file) {
+    static const uint8_t entry[] = {0xFF, 0x00, 0x20, 0x7F, 0xFF, 0xFF, 0xFF, 0xFE, 0x80, 0x01, 0xFF, 0xFD, 0x80, 0x00,
+                                    0x00, 0x02, 0xFF, 0xFF, 0xFF, 0xFC, 0xFE, 0xDC, 0xBA, 0x98, 0x89, 0xAB, 0xCD, 0xEF};
+    size_t len = make_file(file);
+    file[21] = 2;
+    file[25] = 56;
+    memcpy(file + len, entry, sizeof entry);
+    return len + sizeof entry;
+}
+
+static int is_first_entry(const jt_entry *e) {
+    return e->name == ABCD && e->number == 1 && e->type == 4 && e->element_size == 2 && e->count == 2 &&
+           e->data_size == 4 && e->data_offset == 0x1FFFE && e->data_handle == 0;
+}
+
+static int is_second_entry(const jt_entry *e) {
+    return e->name == 0xFF00207F && e->number == -2 && e->type == -32767 && e->element_size == -3 &&
+           e->count == -2147483646 && e->data_size == -4 && e->data_offset == -0x1234568 &&
+           e->data_handle == -0x76543211;
+}
+
+/* Both entries stand in the list, and nothing behind them was written. */
+static void check_listed(jt_listed listed, const jt_entry entries[4], const char *what) {
+    check(listed.refusal == 0 && listed.count == 2, what);
+    check(is_first_entry(&entries[0]) && is_second_entry(&entries[1]), what);
+    check(untouched((const uint8_t *)entries, 56, 4 * sizeof *entries), what);
+}
+
+static void check_listing(void) {
+    uint8_t file[256];
+    jt_entry entries[4];
+    size_t len = make_two_entries(file);
+    check(jt_abif_judge(file, len).refusal == 10, "judging the second entry");
+    for (size_t room = 2; room <= 4; room++) {
+        memset(entries, 0xA5, sizeof entries);
+        check_listed(jt_abif_list(file, len, entries, room), entries, "listing");
+        memset(entries, 0xA5, sizeof entries);
+        check_listed(jt_abif_list_opened(file, len, 128, 2, entries, room), entries, "listing an opened file");
+    }
+    file[21] = 0;
+    jt_listed listed = jt_abif_list(file, 128, NULL, 0);
+    check(listed.refusal == 0 && listed.count == 0, "listing no entries");
+    listed = jt_abif_list_opened(file, 128, 128, 0, NULL, 0);
+    check(listed.refusal == 0 && listed.count == 0, "listing no entries of an opened file");
+}
+
+/* The call is refused so, and nothing was written. */
+static void check_not_listed(jt_listed listed, const jt_entry entries[4], uint64_t refusal, const char *what) {
+    check(listed.refusal == refusal && listed.count == 0, what);
+    check(untouched((const uint8_t *)entries, 0, 4 * sizeof *entries), what);
+}
+
+static void check_listing_refusals(void) {
+    uint8_t file[256];
+    jt_entry list[4];
+    size_t len = make_two_entries(file);
+    uint64_t far = UINT64_C(1) << 32;
+    memset(list, 0xA5, sizeof list);
+    check_not_listed(jt_abif_list(file, len, list, 1), list, 13, "listing into too few records");
+    check_not_listed(jt_abif_list(file, len, NULL, 0), list, 13, "listing into no records");
+    check_not_listed(jt_abif_list(file, len - 1, list, 4), list, 1, "listing a cut directory");
+    check_not_listed(jt_abif_list(NULL, 0, NULL, 0), list, 1, "listing no bytes");
+    check_not_listed(jt_abif_list_opened(file, len, 128, 2, list, 1), list, 13, "too few records for an opened file");
+    check_not_listed(jt_abif_list_opened(file, len, 128, 2, NULL, 0), list, 13, "no records for an opened file");
+    check_not_listed(jt_abif_list_opened(file, len - 1, 129, 2, list, 1), list, 1, "listing a cut opened file");
+    check_not_listed(jt_abif_list_opened(NULL, 0, 128, 2, NULL, 0), list, 1, "listing an opened file of no bytes");
+    check_not_listed(jt_abif_list_opened(file, len, 129, 2, list, 1), list, 4, "listing at another place");
+    check_not_listed(jt_abif_list_opened(file, len, 156, 1, list, 4), list, 4, "listing the last entry alone");
+    check_not_listed(jt_abif_list_opened(file, len, 128, 3, list, 4), list, 4, "listing another count");
+    check_not_listed(jt_abif_list_opened(file, len, 128 + far, 2, list, 4), list, 4, "listing at a place past 32 bits");
+    check_not_listed(jt_abif_list_opened(file, len, 128, 2 + far, list, 4), list, 4, "listing a count past 32 bits");
+}
+
+static void check_opened(const uint8_t *file, size_t len) {
+    jt_opened o = jt_abif_open(file, len);
+    jt_item item = jt_abif_lookup_opened(file, len, o.place, o.count, ABCD, 1);
+    check(item.refusal == 0 && item.type == 4 && item.count == 2, "lookup in an opened file");
+    check(item.start == 148 && item.length == 4, "the item of an opened file");
+    jt_element element = jt_abif_element_opened(file, len, o.place, o.count, ABCD, 1, 2);
+    check(element.refusal == 0 && element.kind == JT_WHOLE && element.whole == -2, "element of an opened file");
+    uint8_t text[256];
+    memcpy(text, file, len);
+    memcpy(text + 136, (const uint8_t[]){0, 19, 0, 1, 0, 0, 0, 3, 0, 0, 0, 3, 'h', 'i', 0}, 15);
+    jt_part part = jt_abif_text_opened(text, len, o.place, o.count, ABCD, 1);
+    check(part.refusal == 0 && part.start == 148 && part.length == 2, "text of an opened file");
+}
+
+/* Every call on the opened file, for a tag that is not there, is refused so, and every other field is 0. */
+static void check_opened_refused(const uint8_t *file, size_t len, uint64_t place, uint64_t count, uint64_t refusal,
+                                 const char *what) {
+    jt_item item = jt_abif_lookup_opened(file, len, place, count, ABCD, -1);
+    check(item.refusal == refusal && item.type == 0 && item.count == 0 && item.start == 0 && item.length == 0, what);
+    jt_element element = jt_abif_element_opened(file, len, place, count, ABCD, -1, 0);
+    check(element.refusal == refusal && element.kind == 0 && element.whole == 0 && element.a == 0, what);
+    jt_part part = jt_abif_text_opened(file, len, place, count, ABCD, -1);
+    check(part.refusal == refusal && part.start == 0 && part.length == 0, what);
+}
+
+static void check_opened_refusals(const uint8_t *file, size_t len) {
+    check_opened_refused(file, len, 128, 1, 7, "a tag that is not in an opened file");
+    check_opened_refused(file, len - 1, 127, 1, 1, "an opened file that is cut");
+    check_opened_refused(NULL, 0, 128, 1, 1, "an opened file of no bytes");
+    check_opened_refused(file, len, 127, 1, 4, "another place");
+    check_opened_refused(file, len, 128, 0, 4, "another count");
+    check_opened_refused(file, len, 1, 128, 4, "place and count changed about");
+    check_opened_refused(file, len, 128 + (UINT64_C(1) << 32), 1, 4, "a place past 32 bits");
+    check_opened_refused(file, len, 128, 1 + (UINT64_C(1) << 32), 4, "a count past 32 bits");
+    check_opened_refused(file, len, UINT64_MAX, UINT64_MAX, 4, "the largest place and count");
+    check(jt_abif_element_opened(file, len, 128, 1, ABCD, 1, 3).refusal == 12, "no such element of an opened file");
+    check(jt_abif_text_opened(file, len, 128, 1, ABCD, 1).refusal == 10, "text of another type in an opened file");
 }
 
 static void check_sff_header(void) {
@@ -541,6 +670,10 @@ int main(void) {
     check_sizes();
     check_answers(file, len);
     check_refusals(file, len);
+    check_listing();
+    check_listing_refusals();
+    check_opened(file, len);
+    check_opened_refusals(file, len);
     check_abif_writing(file, len);
     check_abif_writing_refusals();
     check_abif_lists();

@@ -5,6 +5,29 @@ use crate::refusal::{Refusal, Refused};
 const UNTOUCHED: u32 = 0x5A5A_A5A5;
 const GUARD: usize = 4;
 
+/// What a lent output holds before a call, another value at every place.
+pub trait Untouched: PartialEq {
+    fn untouched(place: usize) -> Self;
+}
+
+impl Untouched for u32 {
+    fn untouched(place: usize) -> u32 {
+        UNTOUCHED ^ place as u32
+    }
+}
+
+impl Untouched for u64 {
+    fn untouched(place: usize) -> u64 {
+        u32::untouched(place).into()
+    }
+}
+
+impl Untouched for i64 {
+    fn untouched(place: usize) -> i64 {
+        u32::untouched(place).into()
+    }
+}
+
 #[repr(C)]
 #[derive(Clone, Copy, Debug, Default, PartialEq, Eq)]
 pub struct Verdict {
@@ -109,16 +132,21 @@ pub struct Written<T> {
     pub out: Vec<T>,
 }
 
-impl<T: Clone + PartialEq + From<u32>> Written<T> {
+impl<T: Untouched> Written<T> {
     /// Makes the call with an output of this room.
     pub fn by(room: usize, call: impl FnOnce(&mut [T]) -> Listed) -> Written<T> {
-        let mut out = vec![T::from(UNTOUCHED); room + GUARD];
+        let mut out: Vec<T> = (0..room + GUARD).map(T::untouched).collect();
         let listed = call(&mut out[..room]);
         Written { listed, out }
     }
 
+    /// A call with an output of this room that is refused so.
+    pub fn refused(refusal: u64, room: usize) -> Written<T> {
+        Written::by(room, |_| Listed { refusal, count: 0 })
+    }
+
     pub fn is_cut_short(&self) -> bool {
-        let untouched = T::from(UNTOUCHED);
-        self.listed.refusal == 1 && self.out.iter().all(|number| *number == untouched)
+        let mut places = self.out.iter().enumerate();
+        self.listed.refusal == 1 && places.all(|(place, now)| *now == T::untouched(place))
     }
 }

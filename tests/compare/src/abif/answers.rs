@@ -1,7 +1,7 @@
 //! The answers of the ABIF functions, field by field, and the same answers made from the reader's.
 
-use super::reader::{Directory, Item, Value};
-use crate::answers::Found;
+use super::reader::{Directory, Entry, Item, Tag, Value};
+use crate::answers::{Found, Untouched};
 use crate::refusal::Refusal;
 use std::ops::Range;
 
@@ -142,6 +142,26 @@ impl Element {
             c,
             d,
             ..Element::default()
+        }
+    }
+}
+
+// Every field has a value of its own, and another one in every record.
+impl Untouched for Entry {
+    fn untouched(place: usize) -> Entry {
+        let number = u32::untouched(place);
+        let turned = |bits| number.rotate_left(bits) as i32;
+        Entry {
+            tag: Tag {
+                name: number,
+                number: turned(4),
+            },
+            type_code: number as i16,
+            element_size: !number as i16,
+            count: turned(8),
+            data_size: turned(12),
+            data_offset: turned(16),
+            data_handle: turned(20),
         }
     }
 }

@@ -1,7 +1,7 @@
 //! The library's ABIF functions behind safe calls.
 
 use super::answers::{Element, Opened, Part};
-use super::reader::Tag;
+use super::reader::{Carried, Entry, Tag};
 use super::writer::Lent;
 use crate::answers::{Finished, Found, Listed, Verdict};
 
@@ -12,6 +12,7 @@ extern "C" {
     fn jt_abif_element(bytes: *const u8, len: usize, name: u32, number: i32, index: u64)
         -> Element;
     fn jt_abif_text(bytes: *const u8, len: usize, name: u32, number: i32) -> Part;
+    fn jt_abif_list(bytes: *const u8, len: usize, entries: *mut Entry, room: usize) -> Listed;
     fn jt_abif_whole_numbers(
         bytes: *const u8,
         len: usize,
@@ -19,6 +20,39 @@ extern "C" {
         number: i32,
         first: u64,
         out: *mut i64,
+        room: usize,
+    ) -> Listed;
+    fn jt_abif_lookup_opened(
+        bytes: *const u8,
+        len: usize,
+        place: u64,
+        count: u64,
+        name: u32,
+        number: i32,
+    ) -> Found;
+    fn jt_abif_element_opened(
+        bytes: *const u8,
+        len: usize,
+        place: u64,
+        count: u64,
+        name: u32,
+        number: i32,
+        index: u64,
+    ) -> Element;
+    fn jt_abif_text_opened(
+        bytes: *const u8,
+        len: usize,
+        place: u64,
+        count: u64,
+        name: u32,
+        number: i32,
+    ) -> Part;
+    fn jt_abif_list_opened(
+        bytes: *const u8,
+        len: usize,
+        place: u64,
+        count: u64,
+        entries: *mut Entry,
         room: usize,
     ) -> Listed;
     fn jt_abif_write(
@@ -66,6 +100,11 @@ pub fn text(bytes: &[u8], tag: Tag) -> Part {
     unsafe { jt_abif_text(bytes.as_ptr(), bytes.len(), tag.name, tag.number) }
 }
 
+pub fn list(bytes: &[u8], out: &mut [Entry]) -> Listed {
+    // SAFETY: each pointer and the length behind it are those of one slice.
+    unsafe { jt_abif_list(bytes.as_ptr(), bytes.len(), out.as_mut_ptr(), out.len()) }
+}
+
 pub fn whole_numbers(bytes: &[u8], tag: Tag, first: u64, out: &mut [i64]) -> Listed {
     // SAFETY: each pointer and the length behind it are those of one slice.
     unsafe {
@@ -75,6 +114,67 @@ pub fn whole_numbers(bytes: &[u8], tag: Tag, first: u64, out: &mut [i64]) -> Lis
             tag.name,
             tag.number,
             first,
+            out.as_mut_ptr(),
+            out.len(),
+        )
+    }
+}
+
+pub fn lookup_opened(bytes: &[u8], carried: Carried, tag: Tag) -> Found {
+    let Carried { place, count } = carried;
+    // SAFETY: the pointer and the length are those of one slice.
+    unsafe {
+        jt_abif_lookup_opened(
+            bytes.as_ptr(),
+            bytes.len(),
+            place,
+            count,
+            tag.name,
+            tag.number,
+        )
+    }
+}
+
+pub fn element_opened(bytes: &[u8], carried: Carried, tag: Tag, index: u64) -> Element {
+    let Carried { place, count } = carried;
+    // SAFETY: the pointer and the length are those of one slice.
+    unsafe {
+        jt_abif_element_opened(
+            bytes.as_ptr(),
+            bytes.len(),
+            place,
+            count,
+            tag.name,
+            tag.number,
+            index,
+        )
+    }
+}
+
+pub fn text_opened(bytes: &[u8], carried: Carried, tag: Tag) -> Part {
+    let Carried { place, count } = carried;
+    // SAFETY: the pointer and the length are those of one slice.
+    unsafe {
+        jt_abif_text_opened(
+            bytes.as_ptr(),
+            bytes.len(),
+            place,
+            count,
+            tag.name,
+            tag.number,
+        )
+    }
+}
+
+pub fn list_opened(bytes: &[u8], carried: Carried, out: &mut [Entry]) -> Listed {
+    let Carried { place, count } = carried;
+    // SAFETY: each pointer and the length behind it are those of one slice.
+    unsafe {
+        jt_abif_list_opened(
+            bytes.as_ptr(),
+            bytes.len(),
+            place,
+            count,
             out.as_mut_ptr(),
             out.len(),
         )

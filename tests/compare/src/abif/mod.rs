@@ -1,11 +1,14 @@
 //! ABIF: its reader, its writer, its files and its calls.
 
 pub mod answers;
+mod calls;
 mod counts;
 mod damage;
 mod draft;
 pub mod generate;
 pub mod library;
+mod listing;
+mod opened;
 mod published;
 mod questions;
 pub mod reader;
@@ -24,7 +27,7 @@ use draft::Draft;
 use questions::Question;
 use std::ops::Range;
 
-pub const GROUPS: [(&str, Run); 16] = [
+pub const GROUPS: [(&str, Run); 19] = [
     ("ABIF published samples", published::samples),
     ("ABIF every type and small size", whole::small_sizes),
     (
@@ -35,6 +38,9 @@ pub const GROUPS: [(&str, Run); 16] = [
     ("ABIF texts", whole::texts),
     ("ABIF long directories", whole::long_directories),
     ("ABIF long items", whole::long_items),
+    ("ABIF listing into every room", listing::rooms),
+    ("ABIF listing every field", listing::fields),
+    ("ABIF opened files", opened::files),
     ("ABIF whole files", random_files::<Abif>),
     ("ABIF one rule broken", damaged::single_changes::<Abif>),
     ("ABIF counts around the most", counts::counts),

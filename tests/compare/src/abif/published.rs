@@ -1,10 +1,11 @@
 //! The published samples with their published answers, asked of library and reader.
 
 use super::answers::{Element, Opened, Part};
+use super::calls::Call;
 use super::questions::{Answer, Question};
-use super::reader::Tag;
+use super::reader::{Carried, Entry, Tag};
 use super::samples;
-use crate::answers::{Found, Listed, Verdict};
+use crate::answers::{Found, Listed, Verdict, Written};
 use crate::format::Question as _;
 use crate::groups::expect;
 use crate::program;
@@ -12,10 +13,23 @@ use crate::report::Group;
 
 const ABCD_1: Tag = Tag::new(b"ABCD", 1);
 const ABCD_2: Tag = Tag::new(b"ABCD", 2);
+const TWO_SHORTS: Found = Found {
+    refusal: 0,
+    type_code: 4,
+    count: 2,
+    start: 148,
+    length: 4,
+};
+const OPENED: Carried = Carried {
+    place: 128,
+    count: 1,
+};
 
 pub fn samples(group: &mut Group) {
     no_bytes(group);
     one_inline_item(group);
+    listed_item(group);
+    opened_item(group);
     three_shorts(group);
     month_thirteen(group);
     program_lines(group);
@@ -40,8 +54,16 @@ fn no_element(refusal: u64) -> Answer {
     })
 }
 
+fn lookup(tag: Tag) -> Question {
+    Question::Plain(Call::Lookup(tag))
+}
+
 fn element(tag: Tag, index: u64) -> Question {
-    Question::Element { tag, index }
+    Question::Plain(Call::Element { tag, index })
+}
+
+fn text(tag: Tag) -> Question {
+    Question::Plain(Call::Text(tag))
 }
 
 fn no_bytes(group: &mut Group) {
@@ -56,9 +78,14 @@ fn no_bytes(group: &mut Group) {
     };
     expect(group, &[], Question::Judge, refused(1, 0));
     expect(group, &[], Question::Open, Answer::Opened(opened));
-    expect(group, &[], Question::Lookup(ABCD_1), not_found(1));
+    expect(group, &[], lookup(ABCD_1), not_found(1));
     expect(group, &[], element(ABCD_1, 1), no_element(1));
-    expect(group, &[], Question::Text(ABCD_1), Answer::Part(part));
+    expect(group, &[], text(ABCD_1), Answer::Part(part));
+    let list = Call::List { room: 1 };
+    expect(group, &[], Question::Plain(list), list.refused(1));
+    for call in [list, Call::Lookup(ABCD_1), Call::Text(ABCD_1)] {
+        expect(group, &[], Question::Opened(OPENED, call), call.refused(1));
+    }
 }
 
 fn one_inline_item(group: &mut Group) {
@@ -69,20 +96,13 @@ fn one_inline_item(group: &mut Group) {
         place: 128,
         count: 1,
     };
-    let found = Found {
-        refusal: 0,
-        type_code: 4,
-        count: 2,
-        start: 148,
-        length: 4,
-    };
     let second = Answer::Element(Element::whole(1, -2));
     expect(group, &file, Question::Judge, whole(156));
     expect(group, &file, Question::Open, Answer::Opened(opened));
-    expect(group, &file, Question::Lookup(ABCD_1), Answer::Found(found));
+    expect(group, &file, lookup(ABCD_1), Answer::Found(TWO_SHORTS));
     expect(group, &file, element(ABCD_1, 2), second);
     expect(group, &file, element(ABCD_1, 3), no_element(12));
-    expect(group, &file, Question::Lookup(ABCD_2), not_found(7));
+    expect(group, &file, lookup(ABCD_2), not_found(7));
     expect(group, &file[..155], Question::Judge, refused(1, 0));
     let numbers = Question::WholeNumbers {
         tag: ABCD_1,
@@ -97,6 +117,70 @@ fn one_inline_item(group: &mut Group) {
         let right = matches!(&answer, Answer::Numbers(numbers)
             if numbers.listed == written && numbers.out[..2] == [1, -2]);
         group.check(right, &file, || format!("{numbers:?}: {answer:?}"));
+    }
+}
+
+// The one entry, for the bytes alone and for the opened file.
+fn listed_item(group: &mut Group) {
+    group.input();
+    let file = samples::one_inline_item();
+    let entry = Entry {
+        tag: ABCD_1,
+        type_code: 4,
+        element_size: 2,
+        count: 2,
+        data_size: 4,
+        data_offset: 0x0001_FFFE,
+        data_handle: 0,
+    };
+    let call = Call::List { room: 2 };
+    let full = Call::List { room: 0 };
+    let listed = Answer::Entries(Written::by(2, |out: &mut [Entry]| {
+        out[0] = entry;
+        Listed {
+            refusal: 0,
+            count: 1,
+        }
+    }));
+    for asked in [Question::Plain, |call| Question::Opened(OPENED, call)] {
+        expect(group, &file, asked(call), listed.clone());
+        expect(group, &file, asked(full), full.refused(13));
+        expect(group, &file[..155], asked(call), call.refused(1));
+        expect(group, &file[..155], asked(full), full.refused(1));
+    }
+}
+
+// What lookup, element and text answer stays, and another place or count is refused before it.
+fn opened_item(group: &mut Group) {
+    group.input();
+    let file = samples::one_inline_item();
+    let second = Call::Element {
+        tag: ABCD_1,
+        index: 2,
+    };
+    let third = Call::Element {
+        tag: ABCD_1,
+        index: 3,
+    };
+    let calls = [
+        (Call::Lookup(ABCD_1), Answer::Found(TWO_SHORTS)),
+        (Call::Lookup(ABCD_2), not_found(7)),
+        (second, Answer::Element(Element::whole(1, -2))),
+        (third, no_element(12)),
+        (Call::Text(ABCD_1), Call::Text(ABCD_1).refused(10)),
+    ];
+    for (call, answer) in calls {
+        expect(group, &file, Question::Opened(OPENED, call), answer);
+        for (place, count) in [(127, 1), (128, 0), (128, 2), (1, 128), (128 + (1 << 32), 1)] {
+            let other = Carried { place, count };
+            expect(group, &file, Question::Opened(other, call), call.refused(4));
+        }
+        expect(
+            group,
+            &file[..155],
+            Question::Opened(OPENED, call),
+            call.refused(1),
+        );
     }
 }
 

@@ -1,20 +1,26 @@
 //! Calls with their arguments, asked of the library and of the reader alike.
 
 use super::answers::{Element, Opened, Part};
+use super::calls::Call;
 use super::library;
-use super::reader::{self, Tag};
+use super::reader::{self, Carried, Entry, Tag};
 use crate::answers::{Found, Verdict, Written};
-use crate::arguments::{numbers_around, rooms, sample};
+use crate::arguments::{numbers_around, rooms, sample, PAST_16_BITS, PAST_32_BITS};
+use crate::big_endian::u32_at;
 use crate::format;
 
 #[derive(Clone, Copy, Debug)]
 pub enum Question {
     Judge,
     Open,
-    Lookup(Tag),
-    Element { tag: Tag, index: u64 },
-    Text(Tag),
-    WholeNumbers { tag: Tag, first: u64, room: usize },
+    Plain(Call),
+    /// The call for an opened file, which carries its directory's place and count.
+    Opened(Carried, Call),
+    WholeNumbers {
+        tag: Tag,
+        first: u64,
+        room: usize,
+    },
 }
 
 #[derive(Clone, Debug, PartialEq)]
@@ -24,6 +30,7 @@ pub enum Answer {
     Found(Found),
     Element(Element),
     Part(Part),
+    Entries(Written<Entry>),
     Numbers(Written<i64>),
 }
 
@@ -37,12 +44,23 @@ impl format::Answer for Answer {
 
     fn is_cut_short(&self) -> bool {
         match self {
-            Answer::Verdict(verdict) => verdict.refusal == 1,
-            Answer::Opened(opened) => opened.refusal == 1,
-            Answer::Found(found) => found.refusal == 1,
-            Answer::Element(element) => element.refusal == 1,
-            Answer::Part(part) => part.refusal == 1,
+            Answer::Entries(written) => written.is_cut_short(),
             Answer::Numbers(written) => written.is_cut_short(),
+            _ => self.refusal() == 1,
+        }
+    }
+}
+
+impl Answer {
+    pub fn refusal(&self) -> u64 {
+        match self {
+            Answer::Verdict(verdict) => verdict.refusal,
+            Answer::Opened(opened) => opened.refusal,
+            Answer::Found(found) => found.refusal,
+            Answer::Element(element) => element.refusal,
+            Answer::Part(part) => part.refusal,
+            Answer::Entries(written) => written.listed.refusal,
+            Answer::Numbers(written) => written.listed.refusal,
         }
     }
 }
@@ -55,11 +73,8 @@ impl format::Question for Question {
         match *self {
             Question::Judge => Answer::Verdict(library::judge(bytes)),
             Question::Open => Answer::Opened(library::open(bytes)),
-            Question::Lookup(tag) => Answer::Found(library::lookup(bytes, tag)),
-            Question::Element { tag, index } => {
-                Answer::Element(library::element(bytes, tag, index))
-            }
-            Question::Text(tag) => Answer::Part(library::text(bytes, tag)),
+            Question::Plain(call) => call.ask_library(bytes),
+            Question::Opened(carried, call) => call.ask_library_opened(bytes, carried),
             Question::WholeNumbers { tag, first, room } => {
                 let call = |out: &mut [i64]| library::whole_numbers(bytes, tag, first, out);
                 Answer::Numbers(Written::by(room, call))
@@ -71,11 +86,8 @@ impl format::Question for Question {
         match *self {
             Question::Judge => Answer::Verdict(reader::judge(bytes).into()),
             Question::Open => Answer::Opened(reader::open(bytes).into()),
-            Question::Lookup(tag) => Answer::Found(reader::lookup(bytes, tag).into()),
-            Question::Element { tag, index } => {
-                Answer::Element(reader::element(bytes, tag, index).into())
-            }
-            Question::Text(tag) => Answer::Part(reader::text(bytes, tag).into()),
+            Question::Plain(call) => call.ask_reader(bytes),
+            Question::Opened(carried, call) => call.ask_reader_opened(bytes, carried),
             Question::WholeNumbers { tag, first, room } => {
                 let call = |out: &mut [i64]| reader::whole_numbers(bytes, tag, first, out).into();
                 Answer::Numbers(Written::by(room, call))
@@ -88,24 +100,96 @@ impl format::Question for Question {
     }
 }
 
-/// Every call on the file: for its tags, for the tags in `more`, and for tags it does not have.
+/// Every call on the file: for its tags, for the tags in `more`, and for tags it does not have; of
+/// the opened file with the right place and count and with wrong ones in turn.
 pub fn questions(bytes: &[u8], more: &[Tag]) -> Vec<Question> {
+    let tags = asked_tags(bytes, more);
+    let right = stated(bytes);
+    let wrong = wrong_ones(right).into_iter();
+    let carried: Vec<Carried> = wrong.flat_map(|wrong| [right, wrong]).collect();
+    let turns = carried.iter().cycle().skip(bytes.len() % carried.len());
+    let mut list = vec![Question::Judge, Question::Open];
+    for (call, &carried) in calls(bytes, &tags).into_iter().zip(turns) {
+        list.push(Question::Plain(call));
+        list.push(Question::Opened(carried, call));
+    }
+    for tag in tags {
+        whole_number_questions(tag, count_of(bytes, tag), bytes.len(), &mut list);
+    }
+    list
+}
+
+/// A selection of the file's tags and of those in `more`, and tags that are in neither.
+pub fn asked_tags(bytes: &[u8], more: &[Tag]) -> Vec<Tag> {
     let mut tags = tags_of(bytes);
     for &tag in more {
         if !tags.contains(&tag) {
             tags.push(tag);
         }
     }
-    let absent = absent_tags(&tags);
-    let mut list = vec![Question::Judge, Question::Open];
-    for tag in sample(&tags).into_iter().chain(absent) {
-        list.push(Question::Lookup(tag));
-        list.push(Question::Text(tag));
-        let count = count_of(bytes, tag);
-        element_questions(tag, count, &mut list);
-        whole_number_questions(tag, count, bytes.len(), &mut list);
+    [sample(&tags), absent_tags(&tags)].concat()
+}
+
+/// The calls that there are for an opened file too.
+pub fn calls(bytes: &[u8], tags: &[Tag]) -> Vec<Call> {
+    let mut calls = Vec::new();
+    for &tag in tags {
+        calls.push(Call::Lookup(tag));
+        calls.push(Call::Text(tag));
+        for index in numbers_around(count_of(bytes, tag)) {
+            calls.push(Call::Element { tag, index });
+        }
     }
-    list
+    let entries = stated(bytes).count.min(bytes.len() as u64 / 28);
+    for room in rooms(entries as usize) {
+        calls.push(Call::List { room });
+    }
+    calls
+}
+
+/// The place and count in the header, whether or not opening takes them.
+pub fn stated(bytes: &[u8]) -> Carried {
+    let field = |at| u32_at(bytes, at) as i32 as u64;
+    if bytes.len() < 34 {
+        return Carried {
+            place: 128,
+            count: 1,
+        };
+    }
+    Carried {
+        place: field(26),
+        count: field(18),
+    }
+}
+
+/// Places and counts near the right ones, far from them, and equal to them in some bits only.
+pub fn wrong_ones(right: Carried) -> Vec<Carried> {
+    let Carried { place, count } = right;
+    let others = |number: u64| {
+        let near = [number.wrapping_sub(1), number.wrapping_add(1), 0, u64::MAX];
+        let far = [PAST_16_BITS, 1 << 31, PAST_32_BITS, 1 << 63];
+        let far = far.map(|more| number.wrapping_add(more));
+        [near, far].concat()
+    };
+    let mut wrong = vec![
+        Carried { place: 0, count: 0 },
+        Carried {
+            place: count,
+            count: place,
+        },
+        Carried {
+            place: place.wrapping_add(28),
+            count: count.wrapping_sub(1),
+        },
+    ];
+    for place in others(place) {
+        wrong.push(Carried { place, count });
+    }
+    for count in others(count) {
+        wrong.push(Carried { place, count });
+    }
+    wrong.retain(|other| *other != right);
+    wrong
 }
 
 fn tags_of(bytes: &[u8]) -> Vec<Tag> {
@@ -136,12 +220,6 @@ fn absent_tags(tags: &[Tag]) -> Vec<Tag> {
 
 fn count_of(bytes: &[u8], tag: Tag) -> u64 {
     reader::lookup(bytes, tag).map_or(2, |item| item.count)
-}
-
-fn element_questions(tag: Tag, count: u64, list: &mut Vec<Question>) {
-    for index in numbers_around(count) {
-        list.push(Question::Element { tag, index });
-    }
 }
 
 fn whole_number_questions(tag: Tag, count: u64, length: usize, list: &mut Vec<Question>) {

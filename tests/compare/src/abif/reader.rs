@@ -14,6 +14,7 @@ const MOST_INLINE_BYTES: usize = 4;
 const DIRECTORY_TAG: Tag = Tag::new(b"tdir", 1);
 const DIRECTORY_TYPE: i16 = 1023;
 
+#[repr(C)]
 #[derive(Clone, Copy, PartialEq, Eq)]
 pub struct Tag {
     pub name: u32,
@@ -100,16 +101,17 @@ impl Type {
     }
 }
 
-/// One 28-byte entry as it stands in the file at `place`.
-#[derive(Clone, Copy, Debug)]
+/// One 28-byte entry as it stands in the file; in memory it is C's record.
+#[repr(C)]
+#[derive(Clone, Copy, Debug, PartialEq, Eq)]
 pub struct Entry {
-    pub place: usize,
     pub tag: Tag,
     pub type_code: i16,
     pub element_size: i16,
     pub count: i32,
     pub data_size: i32,
     pub data_offset: i32,
+    pub data_handle: i32,
 }
 
 #[derive(Clone, Copy, Debug, PartialEq, Eq)]
@@ -120,13 +122,17 @@ pub struct Directory {
 
 impl Directory {
     fn end(self) -> usize {
-        self.place + ENTRY_LENGTH * self.count
+        self.place_of_entry(self.count)
+    }
+
+    fn place_of_entry(self, index: usize) -> usize {
+        self.place + ENTRY_LENGTH * index
     }
 
     pub fn entries(self, bytes: &[u8]) -> impl Iterator<Item = Entry> + '_ {
-        (self.place..self.end())
-            .step_by(ENTRY_LENGTH)
-            .map(|place| entry_at(bytes, place))
+        let table = &bytes[self.place..self.end()];
+        let entries = table.chunks_exact(ENTRY_LENGTH);
+        entries.map(|fields| entry_at(fields, 0))
     }
 }
 
@@ -209,8 +215,7 @@ pub fn judge(bytes: &[u8]) -> Result<usize, Refused> {
         if earlier.any(|other| other[..TAG_LENGTH] == entry[..TAG_LENGTH]) {
             return Err(refused(Refusal::TagTwice));
         }
-        let entry = entry_at(bytes, directory.place + ENTRY_LENGTH * index);
-        let item = item_of(&entry, bytes.len()).map_err(refused)?;
+        let item = item_at(bytes, directory.place_of_entry(index)).map_err(refused)?;
         if item.length > MOST_INLINE_BYTES {
             extent = extent.max(item.start + item.length);
         }
@@ -220,28 +225,31 @@ pub fn judge(bytes: &[u8]) -> Result<usize, Refused> {
 
 pub fn lookup(bytes: &[u8], tag: Tag) -> Result<Item, Refusal> {
     let directory = open(bytes)?;
-    let mut found = directory.entries(bytes).filter(|entry| entry.tag == tag);
-    let entry = found.next().ok_or(Refusal::NotThere)?;
+    let entries = directory.entries(bytes).enumerate();
+    let mut found = entries.filter(|(_, entry)| entry.tag == tag);
+    let (index, _) = found.next().ok_or(Refusal::NotThere)?;
     if found.next().is_some() {
         return Err(Refusal::TagTwice);
     }
-    item_of(&entry, bytes.len())
+    item_at(bytes, directory.place_of_entry(index))
 }
 
-fn item_of(entry: &Entry, file_length: usize) -> Result<Item, Refusal> {
+// The item whose entry stands at this place.
+fn item_at(bytes: &[u8], place: usize) -> Result<Item, Refusal> {
+    let entry = entry_at(bytes, place);
     let kind = Type::from_code(entry.type_code).ok_or(Refusal::TypeNotHandled)?;
-    if !sizes_agree(kind, entry) {
+    if !sizes_agree(kind, &entry) {
         return Err(Refusal::BadSizes);
     }
     let length = entry.data_size as usize;
     let start = if length <= MOST_INLINE_BYTES {
-        entry.place + 20
+        place + 20
     } else if entry.data_offset < LOWEST_OFFSET {
         return Err(Refusal::BadOffset);
     } else {
         entry.data_offset as usize
     };
-    if start + length > file_length {
+    if start + length > bytes.len() {
         return Err(Refusal::CutShort);
     }
     Ok(Item {
@@ -332,6 +340,18 @@ pub fn text(bytes: &[u8], tag: Tag) -> Result<Range<usize>, Refusal> {
     }
 }
 
+/// Copies all entries, sound or not, in file order to the front of `out`; returns how many they are.
+pub fn list(bytes: &[u8], out: &mut [Entry]) -> Result<usize, Refusal> {
+    let directory = open(bytes)?;
+    if out.len() < directory.count {
+        return Err(Refusal::OutputTooSmall);
+    }
+    for (slot, entry) in out.iter_mut().zip(directory.entries(bytes)) {
+        *slot = entry;
+    }
+    Ok(directory.count)
+}
+
 /// Writes the elements from number `first` on to the front of `out` and returns how many they are.
 pub fn whole_numbers(
     bytes: &[u8],
@@ -376,10 +396,54 @@ fn fill<T: Into<i64>>(out: &mut [i64], numbers: impl Iterator<Item = T>) {
     }
 }
 
+/// The directory's place and count that an opened file carries, right or wrong.
+#[derive(Clone, Copy, Debug, PartialEq, Eq)]
+pub struct Carried {
+    pub place: u64,
+    pub count: u64,
+}
+
+impl Carried {
+    // Opening's refusal, and then that of a place or count other than opening's.
+    fn check(self, bytes: &[u8]) -> Result<(), Refusal> {
+        let directory = open(bytes)?;
+        if self.place != directory.place as u64 || self.count != directory.count as u64 {
+            return Err(Refusal::BadHeader);
+        }
+        Ok(())
+    }
+}
+
+pub fn lookup_opened(bytes: &[u8], carried: Carried, tag: Tag) -> Result<Item, Refusal> {
+    carried.check(bytes)?;
+    lookup(bytes, tag)
+}
+
+pub fn element_opened(
+    bytes: &[u8],
+    carried: Carried,
+    tag: Tag,
+    index: u64,
+) -> Result<Value, Refusal> {
+    carried.check(bytes)?;
+    element(bytes, tag, index)
+}
+
+pub fn text_opened(bytes: &[u8], carried: Carried, tag: Tag) -> Result<Range<usize>, Refusal> {
+    carried.check(bytes)?;
+    text(bytes, tag)
+}
+
+pub fn list_opened(bytes: &[u8], carried: Carried, out: &mut [Entry]) -> Result<usize, Refusal> {
+    carried.check(bytes)?;
+    list(bytes, out)
+}
+
+// Without the hint a listing calls this for each entry, in some four times the time.
+#[inline]
 fn entry_at(bytes: &[u8], place: usize) -> Entry {
     let fields = &bytes[place..place + ENTRY_LENGTH];
     Entry {
-        place,
         tag: Tag {
             name: u32_at(fields, 0),
             number: i32_at(fields, 4),
@@ -389,6 +453,7 @@ fn entry_at(bytes: &[u8], place: usize) -> Entry {
         count: i32_at(fields, 12),
         data_size: i32_at(fields, 16),
         data_offset: i32_at(fields, 20),
+        data_handle: i32_at(fields, 24),
     }
 }
 

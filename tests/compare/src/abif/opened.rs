@@ -1,0 +1,62 @@
+//! Opened files: every call with the right place and count, and with wrong ones.
+
+use super::generate::long_directory;
+use super::questions::{asked_tags, calls, stated, wrong_ones};
+use super::reader::{Carried, Tag};
+use super::{damage, library, Abif};
+use crate::damage::random_changes;
+use crate::random::Random;
+use crate::report::Group;
+use crate::tally::Tally;
+
+const FILES: usize = 1000;
+/// What the call for the bytes alone is refused with that the wrong place or count is told before.
+const LATER_REFUSALS: [u64; 9] = [1, 6, 7, 8, 9, 10, 11, 12, 13];
+const LEAST_OF_EACH: u64 = 100;
+
+/// Sees that an opened file answers as its bytes alone do, and that all else is 4, but that a file
+/// that cannot be opened is refused so whatever place and count come with it.
+pub fn files(group: &mut Group) {
+    let mut random = Random::new(18);
+    let mut tally = Tally::default();
+    let mut drafts = damage::bases();
+    drafts.push(long_directory(&mut random, 999));
+    drafts.extend((0..FILES).map(|_| random_changes::<Abif>(&mut random)));
+    for draft in drafts {
+        opened(group, &draft.bytes(), &draft.tags(), &mut tally);
+    }
+    tally.report(group, &LATER_REFUSALS, LEAST_OF_EACH);
+}
+
+fn opened(group: &mut Group, bytes: &[u8], tags: &[Tag], tally: &mut Tally) {
+    group.input();
+    let opening = library::open(bytes);
+    let right = match opening.refusal {
+        0 => Carried {
+            place: opening.place,
+            count: opening.count,
+        },
+        _ => stated(bytes),
+    };
+    let due = match opening.refusal {
+        0 => 4,
+        refusal => refusal,
+    };
+    let wrong = wrong_ones(right);
+    for call in calls(bytes, &asked_tags(bytes, tags)) {
+        let plain = call.ask_library(bytes);
+        let answer = call.ask_library_opened(bytes, right);
+        group.check(answer == plain, bytes, || {
+            format!("{call:?}, {right:?}: {answer:?}, of the bytes alone {plain:?}")
+        });
+        for &other in &wrong {
+            let answer = call.ask_library_opened(bytes, other);
+            group.check(answer == call.refused(due), bytes, || {
+                format!("{call:?}, {other:?}: {answer:?}, refusal {due} is due")
+            });
+        }
+        if opening.refusal == 0 {
+            tally.add(plain.refusal());
+        }
+    }
+}
