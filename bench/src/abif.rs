@@ -1,13 +1,13 @@
-//! ABIF: judging, whole numbers read at once, and writing.
+//! ABIF: judging, listing, whole numbers read at once, and writing.
 
 use crate::timing::compare_times;
 use compare::abif::generate::{plain_file, random_content, Content, Order};
 use compare::abif::library;
-use compare::abif::reader::{self, Tag};
+use compare::abif::reader::{self, Entry, Tag};
 use compare::abif::writer;
 use compare::abif::writing::generate::sound_data;
 use compare::abif::writing::list::List;
-use compare::answers;
+use compare::answers::{self, Untouched};
 use compare::random::Random;
 use std::hint::black_box;
 
@@ -33,6 +33,30 @@ pub fn judging(tags: usize) {
         },
         || {
             let _ = black_box(reader::judge(black_box(&file)));
+        },
+    );
+}
+
+// Each side copies into a list of its own, which is not cleared between the calls.
+pub fn listing(tags: usize) {
+    let file = file_of(tags);
+    let mut ours: Vec<Entry> = (0..tags).map(Entry::untouched).collect();
+    let mut plain = ours.clone();
+    let answer = reader::list(&file, &mut plain);
+    assert_eq!(answer, Ok(tags));
+    let listed = library::list(&file, &mut ours);
+    assert_eq!(listed, answers::Listed::from(answer));
+    assert_eq!(ours, plain);
+    compare_times(
+        &format!("listing a directory of {tags} entries"),
+        ROUNDS,
+        || {
+            let out = black_box(&mut ours[..]);
+            black_box(library::list(black_box(&file), out));
+        },
+        || {
+            let out = black_box(&mut plain[..]);
+            let _ = black_box(reader::list(black_box(&file), out));
         },
     );
 }

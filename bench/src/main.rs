@@ -9,6 +9,7 @@ fn main() {
     for tags in [130, 999] {
         abif::judging(tags);
     }
+    abif::listing(999);
     abif::whole_numbers();
     abif::writing("shorts", &[4]);
     abif::writing("mixed types", &abif::MIXED_TYPES);
