@@ -27,7 +27,6 @@ use Rattle.abif.specs.Lookup.{firstTag, itemOf, lookupIn, lookingUp}
 use Rattle.abif.specs.Element.{dateAt, timeAt, valueAt, elementOf, elementReading}
 use Rattle.abif.specs.Numbers.{numbersOf, numbersReading}
 use Rattle.abif.specs.Text.{pString, cString, textOf, textReading}
-use Rattle.abif.specs.Listing.{entryReading}
 use Rattle.abif.proofs.lookup.Laws.{found-checked}
 
 header-none : (a b : ℕ) (d : Entry) (s : List ℕ) → reach (headerCheck a b d) s ≡ 0
@@ -196,10 +195,3 @@ text-under a b s x w =
     reach-under x _ _ s (reach-must-under x _ _ _ s) (λ _ _.
     reach-under x _ _ s (reach-need-under x _ _ s (found-under a b s x w q e)) (λ l _.
     string-under x (q .«element_type») q l s))))
-
-pub entry-reading-under : (i : ℕ) (s : List ℕ) (x : ℕ) → answer judging s ≡ ok x → reach (entryReading i) s ≤ x
-unfolding entryReading
-entry-reading-under i s x w =
-    reach-under x _ _ s (directory-under s x w) (λ d _.
-    reach-under x _ _ s (reach-must-under x _ _ _ s) (λ _ _.
-    reach-done-under x _ s))

@@ -5,4 +5,3 @@ pub mod Lookup
 pub mod Element
 pub mod Numbers
 pub mod Text
-pub mod Listing

@@ -1,3 +1,4 @@
+pub mod Listing
 pub mod List
 pub mod Opened
 pub mod File

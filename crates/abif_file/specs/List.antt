@@ -4,9 +4,9 @@ use Prim.Native.Nat.{ℕ, zero, suc, _+_}
 use mathlib.Core.List.{List, [], _∷_}
 use lib.Dec.{leb}
 use Rattle.reading.specs.Check.{Check, Answer, ok, refused, done, provided, _>>=_, _>>_}
-use Rattle.abif.specs.declared.listing.RawEntry.{RawEntry}
+use Rattle.abif_file.specs.declared.listing.RawEntry.{RawEntry}
 use Rattle.abif.specs.Directory.{directory}
-use Rattle.abif.specs.Listing.{rawEntry}
+use Rattle.abif_file.specs.Listing.{rawEntry}
 
 -- the n entries from place p on, in file order
 unfoldable pub rawEntries : List ℕ → ℕ → ℕ → List RawEntry

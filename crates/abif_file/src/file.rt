@@ -1,9 +1,9 @@
 // The opened file as a struct: its bytes, lent, with its directory's place and count. Each call takes it apart; one that was made by hand is as safe as one that opening gave.
+use crate::listing::RawEntry;
 use crate::opened;
 use abif::directory;
 use abif::directory::Opened;
 use abif::element::Element;
-use abif::listing::RawEntry;
 use abif::lookup::Found;
 use abif::numbers::Copied;
 use abif::text::Text;

@@ -1,4 +1,6 @@
-// ABIF: the directory listed into a lent list of records, and the opened file, which carries its bytes with its directory's place and count.
+// ABIF: the raw entries of the directory, one by one and into a lent list of records; and the opened file, which carries its bytes with its
+// directory's place and count.
 pub mod file;
 pub mod list;
+pub mod listing;
 pub mod opened;

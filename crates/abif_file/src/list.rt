@@ -1,8 +1,8 @@
 // The raw entries of the directory, into a list of records that the caller lends.
+use crate::listing::RawEntry;
+use crate::listing::raw_entry;
 use abif::directory::Opened;
 use abif::directory::open;
-use abif::listing::RawEntry;
-use abif::listing::raw_entry;
 use abif::numbers::Copied;
 use reading::number::be32;
 ghost use mathlib.Core.Path.{_≡_};
@@ -12,7 +12,7 @@ ghost use lib.ListN.{length, drop};
 ghost use Rattle.reading.specs.Number.{be};
 ghost use Rattle.reading.specs.Check.{answer, mapAnswer};
 ghost use Rattle.reading.specs.Lent.{filled};
-ghost use Rattle.abif.specs.Listing.{rawEntry};
+ghost use Rattle.abif_file.specs.Listing.{rawEntry};
 ghost use Rattle.abif.specs.Numbers.{copied};
 ghost use Rattle.abif_file.specs.List.{rawEntries, listing, toList};
 

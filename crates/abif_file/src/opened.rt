@@ -1,10 +1,10 @@
 // The calls of an opened file, on its bytes and its directory's place and count, which may be any numbers.
 use crate::list;
+use crate::listing::RawEntry;
 use abif::directory::Opened;
 use abif::directory::open;
 use abif::element;
 use abif::element::Element;
-use abif::listing::RawEntry;
 use abif::lookup;
 use abif::lookup::Found;
 use abif::numbers::Copied;

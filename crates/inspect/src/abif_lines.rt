@@ -8,9 +8,9 @@ use abif::directory::Opened;
 use abif::directory::open;
 use abif::judge::Verdict;
 use abif::judge::judge;
-use abif::listing::Listed;
-use abif::listing::RawEntry;
-use abif::listing::entry;
+use abif_file::listing::Listed;
+use abif_file::listing::RawEntry;
+use abif_file::listing::entry;
 
 // Data of 4 bytes or fewer stand in the entry itself.
 fn put_place(d: RawEntry) {

@@ -10,7 +10,7 @@ use Rattle.abif.specs.Judge.{judging}
 use Rattle.abif.proofs.Reach as Reach
 use Rattle.abif.proofs.lookup.Laws.{found-checked}
 use Rattle.abif.proofs.text.Laws.{text-fits}
-use Rattle.abif_file.proofs.Reach.{listing-under, opened-under}
+use Rattle.abif_file.proofs.Reach.{entry-reading-under, listing-under, opened-under}
 use Rattle.abif_file.proofs.list.Numbered.{entries-of}
 use Rattle.abif_file.proofs.opened.Laws.{later-passed, later-with, later-other, later-unopened}
 use Rattle.promises.specs.Demand3.{Holds}
@@ -34,7 +34,7 @@ under openFile s x w = Reach.opening-under s x w
 under (lookup a b) s x w = Reach.lookup-under a b s x w
 under (element a b i) s x w = Reach.element-under a b i s x w
 under (text a b) s x w = Reach.text-under a b s x w
-under (entry i) s x w = Reach.entry-reading-under i s x w
+under (entry i) s x w = entry-reading-under s x w i
 under (wholeNumbers a b i out) s x w = Reach.numbers-under a b i (length out) s x w
 under (list out) s x w = listing-under s x w (length out)
 under (opened p n c) s x w = opened-under s x w p n (checks c) (under c s x w)

@@ -1,9 +1,9 @@
 // Runs the calls that no C function reaches, on the ABIF file on standard input: the parts that lookup and the text call hand back, found and
 // refused, and raw entries by their number.
-use abif::listing::Listed;
-use abif::listing::entry;
 use abif::lookup::data_part;
 use abif::text::text_part;
+use abif_file::listing::Listed;
+use abif_file::listing::entry;
 use libc::STDIN_FILENO;
 use libc::STDOUT_FILENO;
 

@@ -1,7 +1,7 @@
 use Prim.Native.Nat.{ℕ, _+_, _*_}
 use mathlib.Core.Path.{_∙_, ap}
 use borrow.Author.Needs.{needs}
-use Rattle.abif.specs.Listing.{rawEntry}
+use Rattle.abif_file.specs.Listing.{rawEntry}
 use Rattle.abif_file.proofs.list.entry_at.Statement.{statement}
 use Rattle.abif_file.proofs.list.entry_at.Tie as tie
 

@@ -49,10 +49,10 @@ use denote.Triple.Walked.{says, needs, Stays, stay-slice, stay-none, stay-none-s
 use denote.Exit.{yes}
 use denote.Signature.{plain}
 use Rattle.reading.specs.Number.{be}
-use Rattle.abif.specs.declared.listing.RawEntry.{RawEntry}
-use Rattle.abif.specs.Listing.{rawEntry}
-use Rattle.abif.proofs.listing.RawEntry as T″
-use Rattle.abif.proofs.listing.RawEntry.Laws as T′
+use Rattle.abif_file.specs.declared.listing.RawEntry.{RawEntry}
+use Rattle.abif_file.specs.Listing.{rawEntry}
+use Rattle.abif_file.proofs.listing.RawEntry as T″
+use Rattle.abif_file.proofs.listing.RawEntry.Laws as T′
 use Rattle.abif_file.proofs.list.Laws.{written, length-written, all-written}
 use Rattle.abif_file.proofs.list.entry_at as one
 use Rattle.abif_file.proofs.list.entry_at.Symbol as one-def

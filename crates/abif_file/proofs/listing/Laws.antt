@@ -7,9 +7,9 @@ use lib.ListN.{take}
 use borrow.Author.Tests.{le-leb, lt-leb}
 use Rattle.reading.specs.Check.{ok, refused, answer, holds}
 use Rattle.reading.proofs.Steps.{answer-bind, answer-must, answer-done}
 use Rattle.abif.specs.Directory.{opening}
-use Rattle.abif.specs.Listing.{rawEntry, entryReading}
+use Rattle.abif_file.specs.Listing.{rawEntry, entryReading}
 use Rattle.abif.proofs.directory.Laws.{opened-at}
 
 module _ (s : List ℕ) (i : ℕ) where
   module _ (p n : ℕ) (h : answer opening s ≡ ok (p, n)) where

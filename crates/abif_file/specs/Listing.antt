@@ -5,10 +5,10 @@ use mathlib.Core.List.{List}
 use Rattle.reading.specs.Choice.{isNumberOf}
 use Rattle.reading.specs.Number.{be, signed}
 use Rattle.reading.specs.Check.{Check, Answer, ok, refused, done, provided, _>>=_, _>>_}
-use Rattle.abif.specs.declared.listing.RawEntry.{RawEntry}
-use Rattle.abif.specs.declared.listing.Listed.{Listed}
-use Rattle.abif.specs.declared.listing.Listed.the-variants.{At, Refused}
+use Rattle.abif_file.specs.declared.listing.RawEntry.{RawEntry}
+use Rattle.abif_file.specs.declared.listing.Listed.{Listed}
+use Rattle.abif_file.specs.declared.listing.Listed.the-variants.{At, Refused}
 use Rattle.abif.specs.Directory.{directory}
 
 -- the fields of the entry at place p, signed where the format is
 unfoldable pub rawEntry : List ℕ → ℕ → RawEntry

@@ -1,9 +1,9 @@
 use mir.Syntax.{w16, w32}
 use borrow.Author.Needs.{needs}
 use Rattle.reading.proofs.Signs.{field-is}
-use Rattle.abif.specs.Listing.{rawEntry}
-use Rattle.abif.proofs.listing.raw_entry.Statement.{statement}
-use Rattle.abif.proofs.listing.raw_entry.Tie as tie
+use Rattle.abif_file.specs.Listing.{rawEntry}
+use Rattle.abif_file.proofs.listing.raw_entry.Statement.{statement}
+use Rattle.abif_file.proofs.listing.raw_entry.Tie as tie
 
 mul-p : tie.Need-mul-p
 mul-p c = search needs

@@ -1,6 +1,6 @@
 // The raw entries of the directory.
-use crate::directory::Opened;
-use crate::directory::open;
+use abif::directory::Opened;
+use abif::directory::open;
 use reading::number::be16;
 use reading::number::be32;
 use reading::number::signed16;
@@ -8,7 +8,7 @@ use reading::number::signed32;
 ghost use mathlib.Core.Path.{_≡_};
 ghost use Prim.Native.Nat.{_+_, _*_};
 ghost use Rattle.reading.specs.Check.{answer};
-ghost use Rattle.abif.specs.Listing.{rawEntry, entryReading, listed};
+ghost use Rattle.abif_file.specs.Listing.{rawEntry, entryReading, listed};
 
 // A directory entry as it stands in the file, signed where the format is; C programs lend lists of these.
 #[repr(C)]
@@ -30,7 +30,7 @@ pub enum Listed {
 }
 
 // Entry i, from nought, of a directory at this place; bytes that are not there read as zeros.
-pub fn raw_entry(h: &[u8], place: u32, i: u32) -> RawEntry
+pub(crate) fn raw_entry(h: &[u8], place: u32, i: u32) -> RawEntry
     ensures { λ r. ⌜ r ≡ rawEntry (now (h .entry)) (place + 28 * i) ⌝ }
 {
     let p = place as usize + 28 * i as usize;
