@@ -15,7 +15,7 @@ const MOST_ENTRIES: usize = 12;
 const RECORDS_LEFT: usize = 3;
 const ENTRIES_OF_A_LONG_FILE: usize = 999;
 
-/// Random files, as they are and with entries that are sound in no field, into every room.
+/// Random files, as they are and with any numbers in their entries, into every room.
 pub fn rooms(group: &mut Group) {
     let mut random = Random::new(16);
     for _ in 0..FILES {

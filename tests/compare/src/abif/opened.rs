@@ -10,12 +10,12 @@ use crate::report::Group;
 use crate::tally::Tally;
 
 const FILES: usize = 1000;
-/// What the call for the bytes alone is refused with that the wrong place or count is told before.
+/// What a call may be refused with where its place and count are right; 4 comes before each.
 const LATER_REFUSALS: [u64; 9] = [1, 6, 7, 8, 9, 10, 11, 12, 13];
 const LEAST_OF_EACH: u64 = 100;
 
-/// Sees that an opened file answers as its bytes alone do, and that all else is 4, but that a file
-/// that cannot be opened is refused so whatever place and count come with it.
+/// An opened file answers as its bytes alone do, and with another place or count by 4; a file that
+/// cannot be opened is refused as opening is, whatever place and count come with it.
 pub fn files(group: &mut Group) {
     let mut random = Random::new(18);
     let mut tally = Tally::default();
