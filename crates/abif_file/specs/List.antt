@@ -1,8 +1,10 @@
 -- ABIF: the raw entries of the directory, into a list of records that the caller lends.
 -- Assumes nothing.
-use Prim.Native.Nat.{ℕ, zero, suc, _+_}
+use Prim.Native.Nat.{ℕ, zero, suc, _+_, _*_, _≤_, _<_}
 use mathlib.Core.List.{List, [], _∷_}
 use lib.Dec.{leb}
+use lib.ListN.{length}
+use Rattle.reading.specs.Number.{be}
 use Rattle.reading.specs.Check.{Check, Answer, ok, refused, done, provided, _>>=_, _>>_}
 use Rattle.abif_file.specs.declared.listing.RawEntry.{RawEntry}
 use Rattle.abif.specs.Directory.{directory}
@@ -24,3 +26,7 @@ listing room = do
 abbrev pub toList : Answer ℕ → ℕ
 toList (ok n) = n
 toList (refused n e) = 0
+
+-- the first n entries of the directory whose place the header tells are there, and within a machine's numbers
+abbrev pub Present : List ℕ → ℕ → Type 0
+Present s n = (i : ℕ) → i < n → (i < 0x100000000) × (be 4 s 26 + 28 * i + 28 ≤ length s)

@@ -6,7 +6,8 @@ use reading::number::be32;
 use reading::number::signed16;
 use reading::number::signed32;
 ghost use mathlib.Core.Path.{_≡_};
-ghost use Prim.Native.Nat.{_+_, _*_};
+ghost use Prim.Native.Nat.{_+_, _*_, _≤_};
+ghost use lib.ListN.{length};
 ghost use Rattle.reading.specs.Check.{answer};
 ghost use Rattle.abif_file.specs.Listing.{rawEntry, entryReading, listed};
 
@@ -29,20 +30,23 @@ pub enum Listed {
     Refused(u8),
 }
 
-// Entry i, from nought, of a directory at this place; bytes that are not there read as zeros.
+// Entry i, from nought, of a directory at this place. A part of a fixed length is read with no test of its length, so a loop over this is fast.
 pub(crate) fn raw_entry(h: &[u8], place: u32, i: u32) -> RawEntry
+    requires { ⌜ place + 28 * i + 28 ≤ length (now h) ⌝ }
     ensures { λ r. ⌜ r ≡ rawEntry (now (h .entry)) (place + 28 * i) ⌝ }
 {
     let p = place as usize + 28 * i as usize;
+    let end = p + 28;
+    let e = &h[p..end];
     RawEntry {
-        name: be32(h, p),
-        number: signed32(be32(h, p + 4)),
-        element_type: signed16(be16(h, p + 8)),
-        element_size: signed16(be16(h, p + 10)),
-        element_count: signed32(be32(h, p + 12)),
-        data_size: signed32(be32(h, p + 16)),
-        data_offset: signed32(be32(h, p + 20)),
-        data_handle: signed32(be32(h, p + 24)),
+        name: be32(e, 0),
+        number: signed32(be32(e, 4)),
+        element_type: signed16(be16(e, 8)),
+        element_size: signed16(be16(e, 10)),
+        element_count: signed32(be32(e, 12)),
+        data_size: signed32(be32(e, 16)),
+        data_offset: signed32(be32(e, 20)),
+        data_handle: signed32(be32(e, 24)),
     }
 }
 

@@ -35,7 +35,7 @@ use Rattle.abif.specs.Numbers.{copied}
 use Rattle.abif_file.proofs.listing.RawEntry as T
 use Rattle.abif.proofs.numbers.Copied as S
 use Rattle.abif.proofs.numbers.Copied.Laws as S′
-use Rattle.abif_file.specs.List.{toList}
+use Rattle.abif_file.specs.List.{toList, Present}
 use Rattle.abif_file.proofs.list.to_list as num
 use Rattle.abif_file.proofs.list.fill as fill
 
@@ -87,10 +87,10 @@ module _ {M : Type 1} (𝓤 : URA M) (H : Heap 𝓤) (A : Atoms 𝓤) (W : Given
     abbrev pub to-fill : Fill 𝓤 H A mem run .Ghost
     to-fill = (((κ, (κ′, tt)), (q, (q′, tt)), tt, args, (v ∷ [], (w ∷ [], (vint w64 m ∷ [], tt)))), tt)
 
-    asked : (m ≤ length (x .now)) × (m < 0x100000000) → ent 𝓤 (onEntry 𝓤 H A fill.signature (κ, (κ′, tt)) (q, (q′, tt)) args (v ∷ [], (w ∷ [], (vint w64 m ∷ [], tt)))) (Fill 𝓤 H A mem run .pre to-fill)
+    asked : (m ≤ length (x .now)) × Present (now s) m → ent 𝓤 (onEntry 𝓤 H A fill.signature (κ, (κ′, tt)) (q, (q′, tt)) args (v ∷ [], (w ∷ [], (vint w64 m ∷ [], tt)))) (Fill 𝓤 H A mem run .pre to-fill)
     asked within = qed W ((‵ (flft κ q) ⊛ (‵ (flft κ′ q′) ⊛ ‵ ftrue)) ∷ ‵ (owns (ShrSlice (named 0) κ u8 ∷ MutSlice (named 1) κ′ E ∷ usize ∷ []) args (v ∷ [], (w ∷ [], (vint w64 m ∷ [], tt)))) ∷ []) ∵ says ! within $ frame ! $ done !
 
-    pub goes-fill : (m ≤ length (x .now)) × (m < 0x100000000) → m < 2 ^ 64 → ent 𝓤 (⋆ 𝓤 H A ((‵ (flft κ q) ⊛ (‵ (flft κ′ q′) ⊛ ‵ ftrue)) ∷ ‵ Own ∷ ‵ Out ∷ [])) (sep 𝓤 (Fill 𝓤 H A mem run .pre to-fill) (sem 𝓤 H A Own))
+    pub goes-fill : (m ≤ length (x .now)) × Present (now s) m → m < 2 ^ 64 → ent 𝓤 (⋆ 𝓤 H A ((‵ (flft κ q) ⊛ (‵ (flft κ′ q′) ⊛ ‵ ftrue)) ∷ ‵ Own ∷ ‵ Out ∷ [])) (sep 𝓤 (Fill 𝓤 H A mem run .pre to-fill) (sem 𝓤 H A Own))
     goes-fill within m-fits =
         qed W ((‵ (flft κ q) ⊛ (‵ (flft κ′ q′) ⊛ ‵ ftrue)) ∷ ‵ Own ∷ ‵ Out ∷ []) ∵
         move ! (1 ∷ []) $ use1 W (‵ Own ⊛ ‵ Own) (shr-slice-copy 𝓤 H A W (named 0) κ u8 .twice s (v ∷ [])) $ split ! $

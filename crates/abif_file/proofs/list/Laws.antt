@@ -20,7 +20,7 @@ use Rattle.abif.specs.declared.numbers.Copied.{Copied}
 use Rattle.abif_file.specs.Listing.{rawEntry}
 use Rattle.abif.specs.Numbers.{copied}
 use Rattle.abif.proofs.directory.Laws.{opened-at, directory-lies}
-use Rattle.abif_file.specs.List.{rawEntries, listing, toList}
+use Rattle.abif_file.specs.List.{rawEntries, listing, toList, Present}
 use Rattle.abif_file.specs.Opened.{sameDirectory, ofOpened}
 
 -- the list xs after i turns: entry j of the directory at place p stands at place j
@@ -71,20 +71,20 @@ length-entries s (suc n) p = ap suc (length-entries s n (p + 28))
 -- what a call that lists tells: how many entries are written, and what the list then holds
 pub record Told (room : ℕ) (s : List ℕ) (a : Answer (List RawEntry)) : Type 0 where
   pub few : toList (mapAnswer length a) ≤ room
-  pub small : toList (mapAnswer length a) < 0x100000000
+  pub there : Present s (toList (mapAnswer length a))
   pub whole : (xs : List RawEntry) → rawEntries s (be 4 s 26) (toList (mapAnswer length a)) ++ drop (toList (mapAnswer length a)) xs ≡ filled a xs
 
 module _ (room : ℕ) (s : List ℕ) where
   refused-told : (n e : ℕ) → Told room s (refused n e)
   unfolding rawEntries
-  refused-told n e = record { few = omega arith; small = omega arith; whole = λ xs. refl }
+  refused-told n e = record { few = omega arith; there = λ i h. absurd (omega arith); whole = λ xs. refl }
 
   entries-told : (d : Directory) → answer directory s ≡ ok d → d .count ≤ room → Told room s (ok (rawEntries (d .upTo) (d .place) (d .count)))
   entries-told d h l =
       let q = directory-lies s d h in
       let k = length-entries s (d .count) (be 4 s 26) in
       let f : rawEntries (d .upTo) (d .place) (d .count) ≡ rawEntries s (be 4 s 26) (d .count) = rw (q .bytes, q .told) (entries-taken s (be 4 s 26 + 28 * d .count) (d .count) (be 4 s 26) (omega arith)) in
-      rw f (record { few = rw k l; small = rw k (omega arith); whole = λ xs. rw k })
+      rw f (record { few = rw k l; there = rw k (λ i h. (omega arith, omega (arith, q .within, q .told, q .few))); whole = λ xs. rw k })
 
   pub listing-told : Told room s (answer (listing room) s)
   unfolding listing holds
@@ -120,8 +120,8 @@ module _ (room : ℕ) (s : List ℕ) (a : Answer (List RawEntry)) (t : Told room
   number : m ≡ toList (mapAnswer length a)
   number = f ∙ ap toList e
 
-  pub fitting : (m ≤ room) × (m < 0x100000000)
-  fitting = rw number (t .few, t .small)
+  pub fitting : (m ≤ room) × Present s m
+  fitting = rw number (t .few, t .there)
 
   pub leaves : (xs zs : List RawEntry) → zs ≡ rawEntries s (be 4 s 26) m ++ drop m xs → (copied r ≡ mapAnswer length a) × (zs ≡ filled a xs)
   leaves xs zs g = (e, g ∙ ap (λ (k : ℕ). rawEntries s (be 4 s 26) k ++ drop k xs) number ∙ t .whole xs)

@@ -3,7 +3,10 @@
 use Prim.Native.Nat.{ℕ, _+_, _-_, _*_, _≤_, _<_}
 use mathlib.Core.Path.{_≡_}
 use mathlib.Core.List.{List}
-use lib.ListN.{take}
+use native.Mathlib.Nat.{add-zero}
+use native.Mathlib.Omega.{arith}
+use lib.ListN.{take, drop}
+use Rattle.reading.proofs.Width.{be-in-part}
 use borrow.Author.Tests.{le-leb, lt-leb}
 use Rattle.reading.specs.Check.{ok, refused, answer, holds}
 use Rattle.reading.proofs.Steps.{answer-bind, answer-must, answer-done}
@@ -25,3 +28,8 @@ module _ (s : List ℕ) (i : ℕ) where
       pub entry-there : i ≤ n → ok (rawEntry (take (p + 28 * n) s) (p + 28 * (i - 1))) ≡ answer (entryReading i) s
       unfolding entryReading holds
       entry-there g = simp (answer-bind, answer-must, answer-done, opened-at s p n h .1, le-leb 1 i f, le-leb i n g)
+
+-- an entry is that of the 28 bytes that it fills, whose number the code computes as k
+pub raw-part : (h : List ℕ) (p k : ℕ) → k ≡ 28 → rawEntry (take k (drop p h)) 0 ≡ rawEntry h p
+unfolding rawEntry
+raw-part h p k e = rw (e, be-in-part 4 p 28 0 h (omega arith), be-in-part 4 p 28 4 h (omega arith), be-in-part 2 p 28 8 h (omega arith), be-in-part 2 p 28 10 h (omega arith), be-in-part 4 p 28 12 h (omega arith), be-in-part 4 p 28 16 h (omega arith), be-in-part 4 p 28 20 h (omega arith), be-in-part 4 p 28 24 h (omega arith), add-zero p)

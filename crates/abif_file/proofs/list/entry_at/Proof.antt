@@ -12,7 +12,7 @@ cast-raw-entry : tie.Need-cast-raw-entry
 cast-raw-entry c = search needs
 
 raw-entry-requires : tie.Need-raw-entry-requires
-raw-entry-requires c κs = search needs
+raw-entry-requires c κs = rw (c .be32 .ensures) (c .before .before .pre .1)
 
 returns : tie.Need-returns
 returns c = c .raw-entry .ensures ∙ ap (λ (p : ℕ). rawEntry (c .before .before .before .args .s .now) (p + 28 * c .before .before .before .args .i)) (c .before .be32 .ensures)

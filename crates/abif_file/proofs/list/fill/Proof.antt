@@ -51,6 +51,7 @@ use denote.Signature.{plain}
 use Rattle.reading.specs.Number.{be}
 use Rattle.abif_file.specs.declared.listing.RawEntry.{RawEntry}
 use Rattle.abif_file.specs.Listing.{rawEntry}
+use Rattle.abif_file.specs.List.{Present}
 use Rattle.abif_file.proofs.listing.RawEntry as T″
 use Rattle.abif_file.proofs.listing.RawEntry.Laws as T′
 use Rattle.abif_file.proofs.list.Laws.{written, length-written, all-written}
@@ -130,7 +131,7 @@ module _ {M : Type 1} (𝓤 : URA M) (H : Heap 𝓤) (A : Atoms 𝓤) (W : Given
       feqI ! (List Val) (vunit ∷ []) (vunit ∷ []) refl $ done !
 
   -- ---- the call in turn i
-  module _ (i : ℕ) (i-fits : i < 2 ^ 64) (i-low : i < 0x100000000) where
+  module _ (i : ℕ) (i-fits : i < 2 ^ 64) (there : (i < 0x100000000) × (be 4 (now s) 26 + 28 * i + 28 ≤ length (now s))) where
     abbrev args : RefT (List ℕ) × (ℕ × Unit {0})
     args = (s, (i, tt))
 
@@ -141,7 +142,7 @@ module _ {M : Type 1} (𝓤 : URA M) (H : Heap 𝓤) (A : Atoms 𝓤) (W : Given
     to = (((κ, tt), (q, tt), tt, args, passed), tt)
 
     asked : ent 𝓤 (onEntry 𝓤 H A one.signature (κ, tt) (q, tt) args passed) (One 𝓤 H A mem run .pre to)
-    asked = qed W ((‵ (flft κ q) ⊛ ‵ ftrue) ∷ ‵ (owns (ShrSlice (named 0) κ u8 ∷ usize ∷ []) args passed) ∷ []) ∵ says ! i-low $ frame ! $ done !
+    asked = qed W ((‵ (flft κ q) ⊛ ‵ ftrue) ∷ ‵ (owns (ShrSlice (named 0) κ u8 ∷ usize ∷ []) args passed) ∷ []) ∵ says ! there $ frame ! $ done !
 
     apart : ent 𝓤 (⋆ 𝓤 H A ((‵ (flft κ q) ⊛ ‵ ftrue) ∷ ‵ Own ∷ [])) (sep 𝓤 (One 𝓤 H A mem run .pre to) (sem 𝓤 H A Own))
     apart =
@@ -153,7 +154,7 @@ module _ {M : Type 1} (𝓤 : URA M) (H : Heap 𝓤) (A : Atoms 𝓤) (W : Given
     said : (r : RawEntry) → ent 𝓤 (ensured 𝓤 H A one.ended (one.clauses 𝓤 H A mem run) (κ, tt) args tt r) (fact 𝓤 (r ≡ rawEntry (now s) (be 4 (now s) 26 + 28 * i)))
     said r = exE 𝓤 _ (λ ws. snd∗ 𝓤 (sem 𝓤 H A (lasts one.ended (κ, tt) args ws)) (fact 𝓤 (r ≡ rawEntry (now s) (be 4 (now s) 26 + 28 * i))))
 
-  module _ (𝓣 : Tables 𝓤 H) (known : Triple 𝓤 (𝓣 .C #abif-file·list·entry-at) (One 𝓤 H A mem run)) (room : Room E (length xs)) (small : n ≤ length xs) (low : n < 0x100000000) (l₀ l₁ l₂ l₃ l₄ l₅ l₆ l₇ l₈ : ℕ) where
+  module _ (𝓣 : Tables 𝓤 H) (known : Triple 𝓤 (𝓣 .C #abif-file·list·entry-at) (One 𝓤 H A mem run)) (room : Room E (length xs)) (small : n ≤ length xs) (there : Present (now s) n) (l₀ l₁ l₂ l₃ l₄ l₅ l₆ l₇ l₈ : ℕ) where
     abbrev C : Calls 𝓤 H
     C = 𝓣 .C
 
@@ -203,11 +204,11 @@ module _ {M : Type 1} (𝓤 : URA M) (H : Heap 𝓤) (A : Atoms 𝓤) (W : Given
         assigns ! (bin ! (load ! (from ! (stop !)) (look ! 1 refl)) (load ! (from ! (stop !)) (look ! 8 refl)) tt) (from ! (stop !)) (init ! 2 refl (tt, tt)) $
         rewrite ! 2 (λ (t : Bool). ‵ (fat fullShare tyBool l₅ 0 (vbool t))) (holds (ltb i n) (lt→ltb i n less)) refl $
         stays ! (load ! (from ! (stop !)) (look ! 2 refl)) $
-        move ! (13 ∷ 14 ∷ []) $ use2 W (raw (One 𝓤 H A mem run .pre (to i i-fits i-low)) ⊛ ‵ Own) (apart i i-fits i-low) $ split ! $
+        move ! (13 ∷ 14 ∷ []) $ use2 W (raw (One 𝓤 H A mem run .pre (to i i-fits here)) ⊛ ‵ Own) (apart i i-fits here) $ split ! $
         -- [what the call asks; what s owns; the row; _4; _5; _6; _7; _8; _1; _2; _3; _0; ..]
-        calls-at ! (fmOf 𝓤 H (W .laws) 𝓣) (One 𝓤 H A mem run) known (to i i-fits i-low) (and-then ! (load ! (from ! (stop !)) (look ! 8 refl)) (and-then ! (load ! (from ! (stop !)) (look ! 3 refl)) (no-more !))) (λ u.
-        use1 W (later (some (λ (r : RawEntry). ((‵ (flft κ q) ⊛ ‵ ftrue) ⊛ ‵ (E .own r (u ∷ []))) ⊛ raw (ensured 𝓤 H A one.ended (one.clauses 𝓤 H A mem run) (κ, tt) (args i i-fits i-low) tt r)))) (id⊢ 𝓤 _) $ await ! tt $ pick ! (λ r.
-        split ! $ move ! (1 ∷ []) $ use1 W (raw (fact 𝓤 (r ≡ rawEntry (now s) (be 4 (now s) 26 + 28 * i)))) (said i i-fits i-low r) $ heard ! (r ≡ rawEntry (now s) (be 4 (now s) 26 + 28 * i)) (λ e. split ! $ move ! (1 ∷ []) $
+        calls-at ! (fmOf 𝓤 H (W .laws) 𝓣) (One 𝓤 H A mem run) known (to i i-fits here) (and-then ! (load ! (from ! (stop !)) (look ! 8 refl)) (and-then ! (load ! (from ! (stop !)) (look ! 3 refl)) (no-more !))) (λ u.
+        use1 W (later (some (λ (r : RawEntry). ((‵ (flft κ q) ⊛ ‵ ftrue) ⊛ ‵ (E .own r (u ∷ []))) ⊛ raw (ensured 𝓤 H A one.ended (one.clauses 𝓤 H A mem run) (κ, tt) (args i i-fits here) tt r)))) (id⊢ 𝓤 _) $ await ! tt $ pick ! (λ r.
+        split ! $ move ! (1 ∷ []) $ use1 W (raw (fact 𝓤 (r ≡ rawEntry (now s) (be 4 (now s) 26 + 28 * i)))) (said i i-fits here r) $ heard ! (r ≡ rawEntry (now s) (be 4 (now s) 26 + 28 * i)) (λ e. split ! $ move ! (1 ∷ []) $
         peeks ! E (Is E) (shows 𝓤 H A E) r (u ∷ []) (λ is. drop ! $
         -- [the token; what s owns; the row; _4; _5; _6; _7; _8; _1; _2; _3; _0; ..]
         land ! (from ! (stop !)) (init ! 5 refl (LL.lawful T″.the-type T′.the-laws 𝓤 H A W .typed r _ is .0)) $
@@ -233,8 +234,8 @@ module _ {M : Type 1} (𝓤 : URA M) (H : Heap 𝓤) (A : Atoms 𝓤) (W : Given
         i-fits : i < 2 ^ 64
         i-fits = lt-of-lt-of-le less (le-of-lt n-fits)
 
-        i-low : i < 0x100000000
-        i-low = lt-of-lt-of-le less (le-of-lt low)
+        here : (i < 0x100000000) × (be 4 (now s) 26 + 28 * i + 28 ≤ length (now s))
+        here = there i less
 
         next-fits : i + 1 < 2 ^ 64
         next-fits = subst (λ (j : ℕ). j < 2 ^ 64) (sym (one-more i)) (lt-of-le-of-lt less n-fits)
@@ -277,9 +278,9 @@ module _ {M : Type 1} (𝓤 : URA M) (H : Heap 𝓤) (A : Atoms 𝓤) (W : Given
         (loop-rule 𝓤 H (W .laws) 𝓣 _<_ (Nat·lt-wfRel .wf) En body.turn-1 Left Inv turns n)
 
   -- the MIR, up to the loop
-  walk : (𝓣 : Tables 𝓤 H) → Triple 𝓤 (𝓣 .C #abif-file·list·entry-at) (One 𝓤 H A mem run) → Is (ShrSlice (named 0) κ u8) s (v ∷ []) → Room E (length xs) → n ≤ length xs → n < 0x100000000
+  walk : (𝓣 : Tables 𝓤 H) → Triple 𝓤 (𝓣 .C #abif-file·list·entry-at) (One 𝓤 H A mem run) → Is (ShrSlice (named 0) κ u8) s (v ∷ []) → Room E (length xs) → n ≤ length xs → Present (now s) n
       → ent 𝓤 (onEntry 𝓤 H A fill.signature (κ, (κ′, tt)) (q, (q′, tt)) a vals) (WpFn 𝓤 H (𝓣 .C) (𝓣 .Λ) code.function (v ∷ w ∷ vint w64 n ∷ []) Post)
-  walk 𝓣 known p room small low =
+  walk 𝓣 known p room small there =
       qed W ((‵ (flft κ q) ⊛ (‵ (flft κ′ q′) ⊛ ‵ ftrue)) ∷ ‵ (owns (ShrSlice (named 0) κ u8 ∷ MutSlice (named 1) κ′ E ∷ usize ∷ []) a vals) ∷ []) ∵ enter ! (𝓣 .C) (𝓣 .Λ) code.function (v ∷ w ∷ vint w64 n ∷ []) _ $
       alloc1 ! (λ l₀. alloc1 ! (λ l₁. alloc1 ! (λ l₂. alloc1 ! (λ l₃. alloc1 ! (λ l₄. alloc1 ! (λ l₅. alloc1 ! (λ l₆. alloc1 ! (λ l₇. alloc1 ! (λ l₈. alloc0 ! $ params1 ! $
       pass1 ! (init ! 14 refl (shr-slice-lawful 𝓤 H A W (named 0) κ u8 .typed s (v ∷ []) p .0)) $ pass1 ! (init ! 12 refl (tt, (tt, (record { fits = room .0 }, tt)))) $ pass1 ! (init ! 10 refl (tt, record { fits = n-fits })) $ pass0 ! $
@@ -287,13 +288,13 @@ module _ {M : Type 1} (𝓤 : URA M) (H : Heap 𝓤) (A : Atoms 𝓤) (W : Given
       move ! (19 ∷ []) $ fsplit ! $ move ! (1 ∷ []) $ fsplit ! $ fsplit ! $ drop ! $ fsplit ! $ move ! (22 ∷ []) $ split ! $ move ! (1 ∷ []) $ split ! $ move ! (3 ∷ 4 ∷ 0 ∷ []) $
       -- [obs; the borrow; its token; true; s's token; what n owns; what s owns; the locals]
       opens-slice ! tt E xs b o $ move ! (5 ∷ 4 ∷ []) $ join ! $
-      keep ! (1 ∷ 15 ∷ 13 ∷ 11 ∷ 9 ∷ 7 ∷ 21 ∷ 19 ∷ 17 ∷ 23 ∷ 2 ∷ 3 ∷ 4 ∷ 0 ∷ 6 ∷ 24 ∷ 22 ∷ 20 ∷ 18 ∷ 16 ∷ 14 ∷ 12 ∷ 10 ∷ 8 ∷ []) $ by ! (loops 𝓣 known room small low l₀ l₁ l₂ l₃ l₄ l₅ l₆ l₇ l₈))))))))))
+      keep ! (1 ∷ 15 ∷ 13 ∷ 11 ∷ 9 ∷ 7 ∷ 21 ∷ 19 ∷ 17 ∷ 23 ∷ 2 ∷ 3 ∷ 4 ∷ 0 ∷ 6 ∷ 24 ∷ 22 ∷ 20 ∷ 18 ∷ 16 ∷ 14 ∷ 12 ∷ 10 ∷ 8 ∷ []) $ by ! (loops 𝓣 known room small there l₀ l₁ l₂ l₃ l₄ l₅ l₆ l₇ l₈))))))))))
 
 module _ {M : Type 1} (𝓤 : URA M) (H : Heap 𝓤) (A : Atoms 𝓤) (W : Given 𝓤 H A) (mem : Memory → SProp 𝓤) (run : Routine → Fun 𝓤) (𝓣 : Tables 𝓤 H) (known : Triple 𝓤 (𝓣 .C #abif-file·list·entry-at) (One 𝓤 H A mem run)) where
   fill-walks : Walks 𝓤 H A fill.ended stayed (WpFn 𝓤 H (𝓣 .C) (𝓣 .Λ) code.function) (fill.clauses 𝓤 H A mem run)
   fill-walks = walked 𝓤 H A fill.ended stayed (fill.clauses 𝓤 H A mem run) (WpFn 𝓤 H (𝓣 .C) (𝓣 .Λ) code.function)
       (λ κs. (slice-vals, (slice-vals, (uint-vals w64, tt)))) (λ κs. (shr-slice-tells (named 0) (κs .0) u8, (mut-slice-tells (named 1) (κs .1 .0) E, (uint-tells w64, tt))))
-      (λ κs qs bounds a g are. needs 𝓤 ((a .1 .1 .0 ≤ length (a .1 .0 .now)) × (a .1 .1 .0 < 0x100000000)) _ (λ h.
+      (λ κs qs bounds a g are. needs 𝓤 ((a .1 .1 .0 ≤ length (a .1 .0 .now)) × Present (now (a .0)) (a .1 .1 .0)) _ (λ h.
       walk 𝓤 H A W mem run (κs .0) (κs .1 .0) (qs .0) (qs .1 .0) (a .0) (a .1 .0 .ptr .0) (a .1 .0 .ptr .1) (a .1 .0 .name) (a .1 .0 .now) (a .1 .1 .0) (are .1 .1 .0 .1) 𝓣 known (are .0) (are .1 .0 .0 .1) (h .0) (h .1)))
 
   fill-meets : Meets 𝓤 H A fill.signature (WpFn 𝓤 H (𝓣 .C) (𝓣 .Λ) code.function) (fill.spec 𝓤 H A mem run)

@@ -59,7 +59,11 @@ slice-aggregate-raw-entry c =
     simp length-take (omega arith)
 
 raw-entry-requires : tie.Need-raw-entry-requires
-raw-entry-requires c κs = search needs
+raw-entry-requires c κs =
+    let a = c .before .before .before .before in
+    let o = a .before .before in
+    let w = opened-at (o .before .before .args .s .now) _ _ (sym (o .open .ensures) ∙ ap opened (a .place .given .1)) in
+    simp length-take (omega arith)
 
 returns-3 : tie.Need-returns-3
 unfolding entryReading

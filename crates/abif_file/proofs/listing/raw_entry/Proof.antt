@@ -1,7 +1,11 @@
+use Prim.Native.Nat.{_+_, _-_, _*_}
+use mathlib.Core.Path.{_∙_}
+use native.Mathlib.Omega.{arith}
 use mir.Syntax.{w16, w32}
-use borrow.Author.Needs.{needs}
 use Rattle.reading.proofs.Signs.{field-is}
 use Rattle.abif_file.specs.Listing.{rawEntry}
+use Rattle.abif_file.proofs.listing.Laws.{raw-part}
+use borrow.Author.Needs.{needs}
 use Rattle.abif_file.proofs.listing.raw_entry.Statement.{statement}
 use Rattle.abif_file.proofs.listing.raw_entry.Tie as tie
 
@@ -11,11 +15,20 @@ mul-p c = search needs
 add-p : tie.Need-add-p
 add-p c = search needs
 
+add-end : tie.Need-add-end
+add-end c = search needs
+
+sub-e : tie.Need-sub-e
+sub-e c = search needs
+
+part-e-start : tie.Need-part-e-start
+part-e-start c = search needs
+
+part-e-end : tie.Need-part-e-end
+part-e-end c = search needs
+
 be32-requires : tie.Need-be32-requires
 be32-requires c κs = search needs
-
-add-be32 : tie.Need-add-be32
-add-be32 c = search needs
 
 be32-requires-2 : tie.Need-be32-requires-2
 be32-requires-2 c κs = search needs
@@ -23,17 +36,11 @@ be32-requires-2 c κs = search needs
 signed32-requires : tie.Need-signed32-requires
 signed32-requires c κs = search needs
 
-add-be16 : tie.Need-add-be16
-add-be16 c = search needs
-
 be16-requires : tie.Need-be16-requires
 be16-requires c κs = search needs
 
 signed16-requires : tie.Need-signed16-requires
 signed16-requires c κs = search needs
-
-add-be16-2 : tie.Need-add-be16-2
-add-be16-2 c = search needs
 
 be16-requires-2 : tie.Need-be16-requires-2
 be16-requires-2 c κs = search needs
@@ -41,17 +48,11 @@ be16-requires-2 c κs = search needs
 signed16-requires-2 : tie.Need-signed16-requires-2
 signed16-requires-2 c κs = search needs
 
-add-be32-2 : tie.Need-add-be32-2
-add-be32-2 c = search needs
-
 be32-requires-3 : tie.Need-be32-requires-3
 be32-requires-3 c κs = search needs
 
 signed32-requires-2 : tie.Need-signed32-requires-2
 signed32-requires-2 c κs = search needs
-
-add-be32-3 : tie.Need-add-be32-3
-add-be32-3 c = search needs
 
 be32-requires-4 : tie.Need-be32-requires-4
 be32-requires-4 c κs = search needs
@@ -59,17 +60,11 @@ be32-requires-4 c κs = search needs
 signed32-requires-3 : tie.Need-signed32-requires-3
 signed32-requires-3 c κs = search needs
 
-add-be32-4 : tie.Need-add-be32-4
-add-be32-4 c = search needs
-
 be32-requires-5 : tie.Need-be32-requires-5
 be32-requires-5 c κs = search needs
 
 signed32-requires-4 : tie.Need-signed32-requires-4
 signed32-requires-4 c κs = search needs
-
-add-be32-5 : tie.Need-add-be32-5
-add-be32-5 c = search needs
 
 be32-requires-6 : tie.Need-be32-requires-6
 be32-requires-6 c κs = search needs
@@ -86,7 +81,9 @@ returns c =
     let z = n .before .before in
     let t = z .before .before in
     let m = t .before .before in
-    λ i. record {
+    let g = m .before .before .before .before .before .args in
+    let p = g .place + 28 * g .i in
+    (λ i. record {
       name = m .before .before .be32 .ensures i;
       number = field-is w32 4 _ _ _ (m .signed32 .ok) (m .signed32 .ensures) (m .before .be322 .ensures) i;
       «element_type» = field-is w16 2 _ _ _ (t .signed16 .ok) (t .signed16 .ensures) (t .before .be16 .ensures) i;
@@ -95,7 +92,7 @@ returns c =
       «data_size» = field-is w32 4 _ _ _ (s .signed323 .ok) (s .signed323 .ensures) (s .before .be324 .ensures) i;
       «data_offset» = field-is w32 4 _ _ _ (o .signed324 .ok) (o .signed324 .ensures) (o .before .be325 .ensures) i;
       «data_handle» = field-is w32 4 _ _ _ (c .signed325 .ok) (c .signed325 .ensures) (c .before .be326 .ensures) i;
-    }
+    }) ∙ raw-part (g .h .now) p (p + 28 - p) (omega arith)
 
 pub raw-entry-spec : {M : Type 1} → statement M
 raw-entry-spec =
@@ -103,26 +100,23 @@ raw-entry-spec =
     (tie.spec
     mul-p
     add-p
+    add-end
+    sub-e
+    part-e-start
+    part-e-end
     be32-requires
-    add-be32
     be32-requires-2
     signed32-requires
-    add-be16
     be16-requires
     signed16-requires
-    add-be16-2
     be16-requires-2
     signed16-requires-2
-    add-be32-2
     be32-requires-3
     signed32-requires-2
-    add-be32-3
     be32-requires-4
     signed32-requires-3
-    add-be32-4
     be32-requires-5
     signed32-requires-4
-    add-be32-5
     be32-requires-6
     signed32-requires-5
     returns)
