@@ -1,29 +1,29 @@
 -- What the reading calls of ABIF need: judging just the extent that it answers, and no other call more.
 -- Assumes nothing.
-use Prim.Native.Nat.{ℕ, zero, suc, _+_, _*_, _≤_, _<_, max, min}
-use mathlib.Core.Path.{_≡_, sym, _∙_, subst}
+use Prim.Native.Nat.{ℕ, _+_, _*_, _≤_, _<_, max, min}
+use mathlib.Core.Path.{_≡_, sym, _∙_, ap, subst}
 use mathlib.Core.List.{List}
 use mathlib.Core.Bool.{Bool, true, false}
 use native.Mathlib.Omega.{arith}
 use lib.ListN.{length, take, length-take}
 use lib.Dec.{leb, eqb}
-use borrow.Author.Tests.{ltb-true}
 use Rattle.reading.specs.Choice.{pick}
 use Rattle.reading.specs.declared.check.Rule.the-variants.{AtLeast}
-use Rattle.reading.specs.Check.{Check, ok, answer, reach, holds, done, must, need, _>>=_, _>>_}
+use Rattle.reading.specs.Check.{Check, ok, answer, reach, done, must, need, _>>=_, _>>_}
+use Rattle.reading.specs.Entries.{inOrder}
 use Rattle.reading.proofs.Cut.{answer-same}
-use Rattle.reading.proofs.Steps.{reach-done, reach-must, reach-need, reach-at}
-use Rattle.reading.proofs.Passed.{bind-ok, done-ok, must-ok, at-ok, ok-inj}
+use Rattle.reading.proofs.Steps.{reach-done, reach-must, reach-need}
+use Rattle.reading.proofs.Passed.{bind-ok, done-ok, ok-inj}
 use Rattle.reading.proofs.Reach.{reach-none, reach-under, reach-must-under, reach-need-under, reach-pick-under, reach-done-under}
-use Rattle.reading.proofs.Tests.{span}
+use Rattle.reading.proofs.entries.Laws.{one-ok, one-needs-none, order-ends}
 use Rattle.abif.specs.declared.lookup.ItemData.{ItemData}
 use Rattle.abif.specs.declared.entry.Entry.{Entry}
 use Rattle.abif.specs.declared.entry.ElementType.{ElementType}
 use Rattle.abif.specs.declared.entry.ElementType.the-variants.{Listed, Raw, Unknown}
-use Rattle.abif.specs.Entry.{entryOf, dataOffset, typeOf, listedCheck, rawCheck, sizesCheck, placeCheck, entryCheck}
+use Rattle.abif.specs.Entry.{entryOf, hasTag, dataOffset, typeOf, listedCheck, rawCheck, sizesCheck, placeCheck, entryCheck}
 use Rattle.abif.specs.Directory.{Directory, headerCheck, boundsCheck, directory, opening}
-use Rattle.abif.specs.Judge.{judgeEntry, judgeEntries, judging}
-use Rattle.abif.specs.Lookup.{firstTag, itemOf, lookupIn, lookingUp}
+use Rattle.abif.specs.Judge.{judgeEntry, judging}
+use Rattle.abif.specs.Lookup.{itemOf, lookupIn, lookingUp}
 use Rattle.abif.specs.Element.{dateAt, timeAt, valueAt, elementOf, elementReading}
 use Rattle.abif.specs.Numbers.{numbersOf, numbersReading}
 use Rattle.abif.specs.Text.{pString, cString, textOf, textReading}
@@ -78,26 +78,19 @@ entry-under x d s h = reach-under x _ _ s (rw (sizes-none (typeOf (d .«element_
         reach-under x _ _ s (reach-must-under x _ _ _ s) (λ _ _.
         reach-under x _ _ s (rw (reach-need (d .«data_offset») (d .«data_offset» + d .«data_size») s) q) (λ _ _. reach-done-under x _ s))
 
-entry-end : (h : List ℕ) (p i : ℕ) (d : Entry) (s : List ℕ) (y : ℕ) → answer (judgeEntry h p i d) s ≡ ok y → (itemEnd d ≡ y) × (reach (judgeEntry h p i d) s ≡ y)
+entry-end : (h : List ℕ) (p i : ℕ) (s : List ℕ) (y : ℕ) → answer (judgeEntry h p i) s ≡ ok y → (itemEnd (entryOf h (p + 28 * i)) ≡ y) × (reach (judgeEntry h p i) s ≡ y)
 unfolding judgeEntry entryCheck
-entry-end h p i d s y w =
+entry-end h p i s y w =
     let a = bind-ok _ _ s y w in
     let b = bind-ok _ _ s y (a .2) in
-    let e = place-end d s y (b .2) in
+    let e = place-end (entryOf h (p + 28 * i)) s y (b .2) in
     (e .0, simp (a .3, b .3, reach-must, sizes-none, e .1) (omega arith))
 
 -- the entries of a file that is judged whole end within the extent, and need no more
-each-end : (h : List ℕ) (p n i x : ℕ) (s : List ℕ) (z : ℕ) → answer (judgeEntries h p n i x) s ≡ ok z → (max x (reach (judgeEntries h p n i x) s) ≡ z) × (x ≤ z) × ((j : ℕ) → i ≤ j → j < i + n → itemEnd (entryOf h (p + 28 * j)) ≤ z)
-unfolding judgeEntries
-each-end h p zero i x s z w =
-    let e : x ≡ z = done-ok x z s w in
-    (simp (reach-done, e) (omega arith), omega arith, λ j a b. absurd (omega arith))
-each-end h p (suc n) i x s z w =
-    let d = entryOf h (p + 28 * i) in
-    let a = bind-ok _ (λ y. judgeEntries h p n (i + 1) (max x y)) s z w in
-    let g = each-end h p n (i + 1) (max x (a .0)) s z (a .2) in
-    let f = entry-end h p i d s (a .0) (at-ok (i + 1) (judgeEntry h p i d) s (a .0) (a .1)) in
-    (simp (a .3, reach-at, f .1) (omega arith), omega arith, λ j b c. span (λ (k : ℕ). k < i + suc n → itemEnd (entryOf h (p + 28 * k)) ≤ z) i j b (λ _. omega arith) (λ b₁ c₁. g .2 j (omega arith) (omega arith)) c)
+each-end : (h : List ℕ) (p n x : ℕ) (s : List ℕ) (z : ℕ) → answer (inOrder (judgeEntry h p) n 0 x) s ≡ ok z → (max x (reach (inOrder (judgeEntry h p) n 0 x) s) ≡ z) × (x ≤ z) × ((j : ℕ) → j < n → itemEnd (entryOf h (p + 28 * j)) ≤ z)
+each-end h p n x s z w =
+    let g = order-ends (judgeEntry h p) s 0 n 0 x z (omega arith) (λ j y _ _ o. ap (max 0) (entry-end h p j s y o .1)) w in
+    (g .0, g .1, λ j k. let v = g .2 j (omega arith) (omega arith) in omega (arith, entry-end h p j s (v .0) (v .1) .0))
 
 directory-reach : (s : List ℕ) (d : Directory) → answer directory s ≡ ok d → reach directory s ≡ max 128 (d .place + 28 * d .count)
 unfolding directory
@@ -115,7 +108,7 @@ unfolding judging
 extent s x w =
     let a = bind-ok directory _ s x w in
     let f = directory-reach s (a .0) (a .1) in
-    let g = each-end (a .0 .upTo) (a .0 .place) (a .0 .count) 0 (max 128 (a .0 .place + 28 * a .0 .count)) s x (a .2) in
+    let g = each-end (a .0 .upTo) (a .0 .place) (a .0 .count) (max 128 (a .0 .place + 28 * a .0 .count)) s x (a .2) in
     simp (a .3, f) (omega arith)
 
 pub directory-under : (s : List ℕ) (x : ℕ) → answer judging s ≡ ok x → reach directory s ≤ x
@@ -129,20 +122,19 @@ unfolding opening
 opening-under s x w = reach-under x _ _ s (directory-under s x w) (λ d e. reach-done-under x _ s)
 
 pub lookup-under : (a b : ℕ) (s : List ℕ) (x : ℕ) → answer judging s ≡ ok x → reach (lookingUp a b) s ≤ x
-unfolding judging lookingUp lookupIn itemOf holds
+unfolding judging lookingUp lookupIn itemOf
 lookup-under a b s x w =
     let v = bind-ok directory _ s x w in
     let f = directory-reach s (v .0) (v .1) in
-    let g = each-end (v .0 .upTo) (v .0 .place) (v .0 .count) 0 (max 128 (v .0 .place + 28 * v .0 .count)) s x (v .2) in
-    let i = firstTag (v .0 .upTo) (v .0 .place) a b (v .0 .count) 0 in
+    let g = each-end (v .0 .upTo) (v .0 .place) (v .0 .count) (max 128 (v .0 .place + 28 * v .0 .count)) s x (v .2) in
+    let t = hasTag (v .0 .upTo) (v .0 .place) a b in
     reach-under x _ _ s (omega arith) (λ d e.
     let k : v .0 ≡ d = ok-inj (sym (v .1) ∙ e) in
     subst (λ (d : Directory). reach (lookupIn (d .upTo) (d .place) (d .count) a b) s ≤ x) k
-    (reach-under x _ _ s (reach-must-under x _ _ _ s) (λ u q.
-    reach-under x _ _ s (reach-must-under x _ _ _ s) (λ _ _.
+    (reach-under x _ _ s (rw (one-needs-none t (v .0 .count) s) (omega arith)) (λ i q.
     reach-under x _ _ s
-    (entry-under x _ s (g .2 i (omega arith) (omega (arith, ltb-true i (v .0 .count) (must-ok _ _ 7 s u q)))))
-    (λ _ _. reach-done-under x _ s)))))
+    (entry-under x _ s (g .2 i (one-ok t (v .0 .count) i s q .1)))
+    (λ _ _. reach-done-under x _ s))))
 
 -- the data that lookup finds lie within the extent
 found-under : (a b : ℕ) (s : List ℕ) (x : ℕ) → answer judging s ≡ ok x → (q : ItemData) → answer (lookingUp a b) s ≡ ok q → q .start + q .size ≤ x

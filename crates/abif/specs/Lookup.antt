@@ -1,12 +1,13 @@
 -- ABIF: lookup of a tag.
 -- Assumes nothing.
-use Prim.Native.Nat.{ℕ, zero, suc, _+_, _-_, _*_, _≤_, _<_}
+use Prim.Native.Nat.{ℕ, _+_, _*_, _≤_, _<_}
 use mathlib.Core.Path.{_≡_}
 use mathlib.Core.List.{List}
 use lib.ListN.{length}
-use lib.Dec.{leb, ltb, eqb}
+use lib.Dec.{leb}
 use Rattle.reading.specs.Choice.{pick}
-use Rattle.reading.specs.Check.{Check, Answer, ok, refused, done, provided, _>>=_, _>>_}
+use Rattle.reading.specs.Check.{Check, Answer, ok, refused, done, _>>=_}
+use Rattle.reading.specs.Entries.{oneWith}
 use Rattle.reading.specs.Part.{Span}
 use Rattle.abif.specs.declared.entry.Entry.{Entry}
 use Rattle.abif.specs.declared.entry.ElementType.the-variants.{Listed}
@@ -15,11 +16,6 @@ use Rattle.abif.specs.declared.lookup.Found.{Found}
 use Rattle.abif.specs.declared.lookup.Found.the-variants.{Data, Refused}
 use Rattle.abif.specs.Entry.{entryOf, hasTag, typeOf, entryCheck}
 use Rattle.abif.specs.Directory.{directory}
-
--- the first of the n entries from entry i on with the tag (a, b), or the number past the last one
-unfoldable pub firstTag : List ℕ → ℕ → ℕ → ℕ → ℕ → ℕ → ℕ
-firstTag h p a b zero i = i
-firstTag h p a b (suc n) i = pick (hasTag (entryOf h (p + 28 * i)) a b) i (firstTag h p a b n (i + 1))
 
 -- data of 4 bytes or fewer are the first bytes of the entry's own offset field
 unfoldable pub dataOf : Entry → ItemData
@@ -33,12 +29,9 @@ itemOf d = do
 
 -- lookup in a directory: no entry 7, two or more 8, then that entry's checks
 unfoldable pub lookupIn : List ℕ → ℕ → ℕ → ℕ → ℕ → Check ItemData
-lookupIn h p n a b =
-    let i = firstTag h p a b n 0 in
-    do
-      provided (ltb i n) 7
-      provided (eqb (firstTag h p a b (n - (i + 1)) (i + 1)) n) 8
-      itemOf (entryOf h (p + 28 * i))
+lookupIn h p n a b = do
+  i ← oneWith (hasTag h p a b) n
+  itemOf (entryOf h (p + 28 * i))
 
 unfoldable pub lookingUp : ℕ → ℕ → Check ItemData
 lookingUp a b = do

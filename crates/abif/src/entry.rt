@@ -7,9 +7,10 @@ use reading::number::be16;
 use reading::number::be32;
 ghost use mathlib.Core.Path.{_≡_};
 ghost use mathlib.Core.List.{List};
-ghost use Prim.Native.Nat.{ℕ, _+_, _≤_, _<_};
+ghost use Prim.Native.Nat.{ℕ, _+_, _-_, _*_, _≤_, _<_};
 ghost use lib.ListN.{length};
 ghost use Rattle.reading.specs.Check.{run};
+ghost use Rattle.reading.specs.Entries.{firstWith};
 ghost use Rattle.reading.specs.Explain.{tested};
 ghost use Rattle.abif.specs.Entry.{entryOf, hasTag, typeOf, listedCheck, rawCheck, sizesCheck, placeCheck, entryCheck, item};
 
@@ -56,15 +57,31 @@ pub(crate) fn entry_at(h: &[u8], p: usize) -> Entry
     }
 }
 
-// The entry at place p has the tag of this name and number.
-pub(crate) fn has_tag(h: &[u8], p: usize, name: u32, number: u32) -> bool
-    requires { ⌜ p + 28 ≤ length (now h) ⌝ }
-    ensures { λ r. ⌜ r ≡ hasTag (entryOf (now (h .entry)) p) name number ⌝ }
+// Entry i, counted from 0, of the directory at p has the tag of this name and number.
+fn has_tag(h: &[u8], p: usize, name: u32, number: u32, i: usize) -> bool
+    requires { ⌜ p + 28 * i + 28 ≤ length (now h) ⌝ }
+    ensures { λ r. ⌜ r ≡ hasTag (now (h .entry)) p name number i ⌝ }
 {
-    if be32(h, p) == name {
-        return be32(h, p + 4) == number;
+    let e = p + 28 * i;
+    if be32(h, e) == name {
+        return be32(h, e + 4) == number;
     }
     false
+}
+
+// The first entry with this tag from entry `from` on, of n, or n.
+pub(crate) fn first_tag(h: &[u8], p: usize, name: u32, number: u32, from: usize, n: usize) -> usize
+    requires { ⌜ (p + 28 * n ≤ length (now h)) × (from ≤ n) ⌝ }
+    ensures { λ r. ⌜ (r ≡ firstWith (hasTag (now (h .entry)) p name number) (n - from) from) × (r ≤ n) ⌝ }
+{
+    let mut i = from;
+    while i < n {
+        if has_tag(h, p, name, number, i) {
+            return i;
+        }
+        i += 1;
+    }
+    i
 }
 
 // The element type that a code stands for.

@@ -5,14 +5,14 @@ use crate::entry::Entry;
 use crate::entry::Item;
 use crate::entry::entry_at;
 use crate::entry::entry_tests;
-use crate::entry::has_tag;
+use crate::entry::first_tag;
 use reading::part::part;
 ghost use mathlib.Core.Path.{_≡_};
-ghost use Prim.Native.Nat.{_+_, _-_, _*_, _≤_, _<_};
+ghost use Prim.Native.Nat.{_+_, _*_, _≤_, _<_};
 ghost use lib.ListN.{length};
 ghost use Rattle.reading.specs.Check.{answer, mapAnswer};
 ghost use Rattle.reading.specs.Part.{shown, handedBack};
-ghost use Rattle.abif.specs.Lookup.{firstTag, dataOf, itemOf, lookupIn, lookingUp, found, dataSpan};
+ghost use Rattle.abif.specs.Lookup.{dataOf, itemOf, lookupIn, lookingUp, found, dataSpan};
 
 // An item's data: where they stand, with the type and the count.
 pub struct ItemData {
@@ -26,20 +26,6 @@ pub struct ItemData {
 pub enum Found {
     Data(ItemData),
     Refused(u8),
-}
-
-fn first_tag(h: &[u8], p: usize, name: u32, number: u32, from: usize, n: usize) -> usize
-    requires { ⌜ (p + 28 * n ≤ length (now h)) × (from ≤ n) ⌝ }
-    ensures { λ r. ⌜ (r ≡ firstTag (now (h .entry)) p name number (n - from) from) × (r ≤ n) ⌝ }
-{
-    let mut i = from;
-    while i < n {
-        if has_tag(h, p + 28 * i, name, number) {
-            return i;
-        }
-        i += 1;
-    }
-    i
 }
 
 // Data of 4 bytes or fewer are the first bytes of the entry's own offset field.

@@ -15,6 +15,8 @@ use borrow.Author.Tests.{le-leb, lt-leb, eq-eqb, leb-true, leb-false}
 use Rattle.reading.specs.Choice.{pick}
 use Rattle.reading.specs.Number.{be, bits}
 use Rattle.reading.specs.Check.{ok, refused, answer, holds}
+use Rattle.reading.specs.Entries.{firstWith}
+use Rattle.reading.proofs.entries.Laws.{first-none, first-is}
 use Rattle.reading.proofs.Signs.{half}
 use Rattle.reading.proofs.Steps.{answer-bind, answer-must}
 use Rattle.reading.proofs.Tests.{no}
@@ -26,9 +28,9 @@ use Rattle.abif.specs.declared.entry.ElementType.the-variants.{Listed, Raw, Unk
 use Rattle.abif.specs.declared.lookup.ItemData.{ItemData}
 use Rattle.abif.specs.Entry.{entryOf, hasTag, typeOf, sizesCheck, entryCheck}
 use Rattle.abif.specs.Directory.{Directory, directoryEnd, headerCheck, boundsCheck, directory, opening}
-use Rattle.abif.specs.Judge.{tagAmong, judgeEntry, judging}
-use Rattle.abif.specs.Lookup.{firstTag, dataOf, lookingUp}
-use Rattle.abif.proofs.Passing.{directory-passes, opening-passes, listed-passes, raw-passes, dataEnd, entry-passes, differ, tag-none, judged-new, judging-passes, first-none, first-is, lookup-finds, lookup-misses}
+use Rattle.abif.specs.Judge.{judgeEntry, judging}
+use Rattle.abif.specs.Lookup.{dataOf, lookingUp}
+use Rattle.abif.proofs.Passing.{directory-passes, opening-passes, listed-passes, raw-passes, dataEnd, entry-passes, differ, judged-new, judging-passes, lookup-finds, lookup-misses}
 use Rattle.abif_write.specs.declared.item.Item.{Item}
 use Rattle.abif_write.specs.Item.{part, isTaken, writtenSize, Sound, ordered}
 use Rattle.abif_write.specs.Entry.{tagBytes, dataBytes, entryBytes, tdir, headerBytes, entryFor}
@@ -265,20 +267,21 @@ module _ (g : ℕ → Item) (b : List ℕ) (n : ℕ) (lent : Lent g b) (checked 
       ∙ rw (take-all (place + 28 * n) (file g b n) (omega arith))
 
   -- entry j's tag
-  tag-of : (j x y : ℕ) → j < n → hasTag (entryOf (file g b n) (place + 28 * j)) x y ≡ pick (eqb (g j .name) x) (eqb (bits 4 (g j .number)) y) false
+  tag-of : (j x y : ℕ) → j < n → hasTag (file g b n) place x y j ≡ pick (eqb (g j .name) x) (eqb (bits 4 (g j .number)) y) false
+  unfolding hasTag
   tag-of j x y h = rw (entry-is j h, entry-name b (g j) (place + 28 * j) (at j), entry-number b (g j) (place + 28 * j) (at j))
 
-  other-tag : (j k : ℕ) → j < n → k < n → ((g j .name ≡ g k .name) × (bits 4 (g j .number) ≡ bits 4 (g k .number)) → ⊥) → hasTag (entryOf (file g b n) (place + 28 * j)) (g k .name) (bits 4 (g k .number)) ≡ false
+  other-tag : (j k : ℕ) → j < n → k < n → ((g j .name ≡ g k .name) × (bits 4 (g j .number) ≡ bits 4 (g k .number)) → ⊥) → hasTag (file g b n) place (g k .name) (bits 4 (g k .number)) j ≡ false
   other-tag j k h l f = tag-of j (g k .name) (bits 4 (g k .number)) h ∙ differ (g j .name) (bits 4 (g j .number)) (g k .name) (bits 4 (g k .number)) f
 
   two : (j k : ℕ) → j < k → k < n → (g j .name ≡ g k .name) × (bits 4 (g j .number) ≡ bits 4 (g k .number)) → ⊥
   two = two-tags g n (lent .numbers) (λ k h. checked k h .1)
 
-  judges : (k : ℕ) → k < n → answer (judgeEntry (file g b n) place k (entryOf (file g b n) (place + 28 * k))) (file g b n) ≡ ok (dataEnd (entry k))
+  judges : (k : ℕ) → k < n → answer (judgeEntry (file g b n) place k) (file g b n) ≡ ok (dataEnd (entry k))
   judges k h =
-      let e = entry-is k h in
-      let t : tagAmong (file g b n) place k 0 (entry k) ≡ false = tag-none (file g b n) place k 0 (entry k) (λ j p q. rw (entry-name b (g k) (place + 28 * k) (at k), entry-number b (g k) (place + 28 * k) (at k)) (other-tag j k (omega arith) h (two j k (omega arith) h))) in
-      rw e (judged-new (file g b n) (file g b n) place k (dataEnd (entry k)) (entry k) t (passes k h))
+      judged-new (file g b n) (file g b n) place k (dataEnd (entry k))
+      (λ j l. rw (entry-is k h, entry-name b (g k) (place + 28 * k) (at k), entry-number b (g k) (place + 28 * k) (at k)) (other-tag j k (omega arith) h (two j k l h)))
+      (rw (entry-is k h) (passes k h))
 
   pub trip-whole : answer judging (file g b n) ≡ ok (length (file g b n))
   trip-whole =
@@ -293,18 +296,18 @@ module _ (g : ℕ → Item) (b : List ℕ) (n : ℕ) (lent : Lent g b) (checked 
       rw (← z) (opening-passes (file g b n) found-directory opens)
 
   -- item k is the first with its tag, and there is none behind it
-  own-tag : (k : ℕ) → k < n → hasTag (entryOf (file g b n) (place + 28 * k)) (g k .name) (bits 4 (g k .number)) ≡ true
+  own-tag : (k : ℕ) → k < n → hasTag (file g b n) place (g k .name) (bits 4 (g k .number)) k ≡ true
   own-tag k h = tag-of k (g k .name) (bits 4 (g k .number)) h ∙ rw (eq-eqb (g k .name) (g k .name) refl, eq-eqb (bits 4 (g k .number)) (bits 4 (g k .number)) refl)
 
-  first-own : (k : ℕ) → k < n → firstTag (file g b n) place (g k .name) (bits 4 (g k .number)) n 0 ≡ k
+  first-own : (k : ℕ) → k < n → firstWith (hasTag (file g b n) place (g k .name) (bits 4 (g k .number))) n 0 ≡ k
   first-own k h =
-      first-is (file g b n) place (g k .name) (bits 4 (g k .number)) k n 0 (omega arith) (omega arith)
+      first-is (hasTag (file g b n) place (g k .name) (bits 4 (g k .number))) k n 0 (omega arith) (omega arith)
       (λ j p q. other-tag j k (omega arith) h (two j k q h))
       (own-tag k h)
 
-  none-behind : (k : ℕ) → k < n → firstTag (file g b n) place (g k .name) (bits 4 (g k .number)) (n - (k + 1)) (k + 1) ≡ n
+  none-behind : (k : ℕ) → k < n → firstWith (hasTag (file g b n) place (g k .name) (bits 4 (g k .number))) (n - (k + 1)) (k + 1) ≡ n
   none-behind k h =
-      first-none (file g b n) place (g k .name) (bits 4 (g k .number)) (n - (k + 1)) (k + 1)
+      first-none (hasTag (file g b n) place (g k .name) (bits 4 (g k .number))) (n - (k + 1)) (k + 1)
       (λ j p q. other-tag j k (omega arith) h (λ e. two k j (omega arith) (omega arith) (sym (e .0), sym (e .1))))
       ∙ omega arith
 
@@ -316,7 +319,7 @@ module _ (g : ℕ → Item) (b : List ℕ) (n : ℕ) (lent : Lent g b) (checked 
   pub trip-only : (x y : ℕ) → ((k : ℕ) → k < n → (g k .name ≡ x) × (bits 4 (g k .number) ≡ y) → ⊥) → answer (lookingUp x y) (file g b n) ≡ refused 7 0
   trip-only x y f =
       lookup-misses (file g b n) found-directory opens x y
-      (first-none (file g b n) place x y n 0 (λ j p q. tag-of j x y (omega arith) ∙ differ (g j .name) (bits 4 (g j .number)) x y (f j (omega arith))) ∙ omega arith)
+      (first-none (hasTag (file g b n) place x y) n 0 (λ j p q. tag-of j x y (omega arith) ∙ differ (g j .name) (bits 4 (g j .number)) x y (f j (omega arith))) ∙ omega arith)
 
   -- the data found are the data given
   part-long : (k : ℕ) → k < n → length (part b (g k)) ≡ g k .size

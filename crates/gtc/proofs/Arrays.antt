@@ -16,7 +16,7 @@ use Rattle.gtc.specs.Table.{Table, table}
 use Rattle.gtc.specs.Entry.{entryWith}
 use Rattle.gtc.specs.Item.{listingOf, countField, arrayCount, elementsOf, snpCheck, shapeCheck, shapedCheck, itemCheck}
 use Rattle.gtc.specs.Lookup.{lookupListed, lookupIn, lookingUp}
-use Rattle.gtc.proofs.entry.Laws.{found-id}
+use Rattle.gtc.proofs.entry.Laws.{with-found}
 
 -- what lookup of an id with a shape has passed
 record Shapes (k : ℕ) (z : Shape) (s : List ℕ) (q : ItemData) : Type 0 where
@@ -31,7 +31,7 @@ shaped k z s q e w =
     let t = bind-ok table _ s q w in
     let a = bind-ok _ _ s q (t .2) in
     let d = bind-ok (entryWith (t .0 .upTo) (t .0 .count) k) _ s q (a .2) in
-    let i : listingOf (d .0 .id) ≡ Shaped z = ap listingOf (found-id s _ _ k (d .0) (d .1)) ∙ e in
+    let i : listingOf (d .0 .id) ≡ Shaped z = ap listingOf (with-found s _ _ k (d .0) (d .1) .3) ∙ e in
     let b = bind-ok _ _ s q (subst (λ (v : Listing). answer (itemCheck v (t .0 .upTo) (t .0 .count) (d .0)) s ≡ ok q) i (d .2)) in
     record { contents = t .0; opened = t .1; entry = d .0; passed = b .2 }
 

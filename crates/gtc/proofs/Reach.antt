@@ -9,20 +9,22 @@ use lib.ListN.{length, take, length-take}
 use Rattle.reading.specs.Choice.{pick}
 use Rattle.reading.specs.declared.check.Rule.the-variants.{Other}
 use Rattle.reading.specs.Check.{Check, ok, answer, reach, holds, done, must, _>>=_, _>>_}
+use Rattle.reading.specs.Entries.{inOrder}
 use Rattle.reading.proofs.Cut.{answer-same}
-use Rattle.reading.proofs.Steps.{reach-done, reach-must, reach-need, reach-at}
-use Rattle.reading.proofs.Passed.{bind-ok, done-ok, must-ok, at-ok, ok-inj}
+use Rattle.reading.proofs.Steps.{reach-done, reach-must, reach-need}
+use Rattle.reading.proofs.Passed.{bind-ok, done-ok, must-ok, ok-inj}
 use Rattle.reading.proofs.Reach.{reach-none, reach-under, reach-must-under, reach-need-under, reach-done-under}
-use Rattle.reading.proofs.Tests.{span, no}
+use Rattle.reading.proofs.entries.Laws.{beyond, order-ends}
+use Rattle.reading.proofs.Tests.{no}
 use Rattle.gtc.specs.declared.entry.Entry.{Entry}
 use Rattle.gtc.specs.declared.item.ItemData.{ItemData}
 use Rattle.gtc.specs.declared.snp.SnpArrays.{SnpArrays}
 use Rattle.gtc.specs.Table.{Table, tableEnd, markCheck, countCheck, table}
 use Rattle.gtc.specs.Entry.{entryPlace, entryOf, entryWith, idField}
 use Rattle.gtc.specs.Item.{listingOf, isListed, itemCheck, itemEnd}
-use Rattle.gtc.specs.Judge.{Extent, newId, idAmong, judgeEntry, judgeEntries, judgeTable, judging}
+use Rattle.gtc.specs.Judge.{Extent, newId, idAmong, judgeEntry, judgeTable, judging}
 use Rattle.gtc.specs.Lookup.{lookupListed, lookupIn, lookingUp}
-use Rattle.gtc.proofs.entry.Laws.{with-found, with-none-needed, found-id, entry-place}
+use Rattle.gtc.proofs.entry.Laws.{with-found, with-none-needed, entry-place}
 use Rattle.gtc.proofs.item.Laws.{item-end}
 use Rattle.gtc.proofs.lookup.Laws.{lookup-within}
 use Rattle.gtc.specs.Genotype.{decoding}
@@ -54,45 +56,33 @@ abbrev checksOf : List ℕ → ℕ → Entry → Check ItemData
 checksOf h n d = itemCheck (listingOf (d .id)) h n d
 
 -- an entry's end is what judging it needs beyond the table, and a listed entry's own checks need no more
-entry-end : (h : List ℕ) (n i : ℕ) (d : Entry) (s : List ℕ) (y : ℕ) → answer (judgeEntry h n i d) s ≡ ok y → (max (d .place + 6) (reach (judgeEntry h n i d) s) ≡ max (d .place + 6) y) × (isListed (listingOf (d .id)) ≡ true → reach (checksOf h n d) s ≤ max (d .place + 6) y)
+entry-end : (h : List ℕ) (n i : ℕ) (s : List ℕ) (y : ℕ) → answer (judgeEntry h n i) s ≡ ok y → (max (tableEnd (i + 1)) (reach (judgeEntry h n i) s) ≡ max (tableEnd (i + 1)) y) × (isListed (listingOf (entryOf h (entryPlace i) .id)) ≡ true → reach (checksOf h n (entryOf h (entryPlace i))) s ≤ max (tableEnd (i + 1)) y)
 unfolding judgeEntry
-entry-end h n i d s y w = go (isListed (listingOf (d .id))) w
+entry-end h n i s y w = go (isListed (listingOf (d .id))) w
   where
+    d : Entry
+    d = entryOf h (entryPlace i)
+
     listed : Check ℕ
     listed = must (idField d) (Other newId (not (idAmong h (d .id) i))) 8 >> (itemCheck (listingOf (d .id)) h n d >>= (λ q. done (itemEnd q)))
 
-    go : (b : Bool) → answer (pick b listed (done 0)) s ≡ ok y → (max (d .place + 6) (reach (pick b listed (done 0)) s) ≡ max (d .place + 6) y) × (b ≡ true → reach (itemCheck (listingOf (d .id)) h n d) s ≤ max (d .place + 6) y)
+    go : (b : Bool) → answer (pick b listed (done 0)) s ≡ ok y → (max (tableEnd (i + 1)) (reach (pick b listed (done 0)) s) ≡ max (tableEnd (i + 1)) y) × (b ≡ true → reach (itemCheck (listingOf (d .id)) h n d) s ≤ max (tableEnd (i + 1)) y)
     go true v =
         let a = bind-ok _ _ s y v in
         let b = bind-ok (itemCheck (listingOf (d .id)) h n d) _ s y (a .2) in
         let z : itemEnd (b .0) ≡ y = done-ok _ y s (b .2) in
         let e = item-end (listingOf (d .id)) h n d s (b .0) (b .1) in
+        let p : d .place ≡ entryPlace i = entry-place h (entryPlace i) in
         (simp (a .3, b .3, reach-must, reach-done) (omega arith), λ _. omega arith)
     go false v =
         let z : 0 ≡ y = done-ok 0 y s v in
         (simp reach-done (omega arith), λ f. absurd (no f))
 
--- two ends beyond a table are one beyond a larger end
-beyond : (p x e y : ℕ) → p ≤ x → max p e ≡ max p y → max x e ≡ max x y
-beyond p x e y l q = omega arith
-
-larger-of : (x e r : ℕ) → max x (max e r) ≡ max (max x e) r
-larger-of x e r = omega arith
-
 -- the entries of a file that is judged whole end within the extent, and need no more
-each-end : (h : List ℕ) (n m i x : ℕ) (s : List ℕ) (z : ℕ) → tableEnd (i + m) ≤ x → answer (judgeEntries h n m i x) s ≡ ok z → (max x (reach (judgeEntries h n m i x) s) ≡ z) × (x ≤ z) × ((j : ℕ) → i ≤ j → j < i + m → isListed (listingOf (entryOf h (entryPlace j) .id)) ≡ true → reach (checksOf h n (entryOf h (entryPlace j))) s ≤ z)
-unfolding judgeEntries
-each-end h n zero i x s z t w =
-    let e : x ≡ z = done-ok x z s w in
-    (simp (reach-done, e) (omega arith), omega arith, λ j a b. absurd (omega arith))
-each-end h n (suc m) i x s z t w =
-    let d = entryOf h (entryPlace i) in
-    let p : d .place ≡ entryPlace i = entry-place h (entryPlace i) in
-    let a = bind-ok _ (λ y. judgeEntries h n m (i + 1) (max x y)) s z w in
-    let g = each-end h n m (i + 1) (max x (a .0)) s z (omega arith) (a .2) in
-    let f = entry-end h n i d s (a .0) (at-ok (i + 1) (judgeEntry h n i d) s (a .0) (a .1)) in
-    let b = beyond (d .place + 6) x _ (a .0) (omega arith) (f .0) in
-    (simp (a .3, reach-at, larger-of, b) (g .0), omega arith, λ j b c. span (λ (k : ℕ). k < i + suc m → isListed (listingOf (entryOf h (entryPlace k) .id)) ≡ true → reach (checksOf h n (entryOf h (entryPlace k))) s ≤ z) i j b (λ _ v. omega (arith, f .1 v)) (λ b₁ c₁. g .2 j (omega arith) (omega arith)) c)
+each-end : (h : List ℕ) (n : ℕ) (s : List ℕ) (z : ℕ) → answer (inOrder (judgeEntry h n) n 0 (tableEnd n)) s ≡ ok z → (max (tableEnd n) (reach (inOrder (judgeEntry h n) n 0 (tableEnd n)) s) ≡ z) × (tableEnd n ≤ z) × ((j : ℕ) → j < n → isListed (listingOf (entryOf h (entryPlace j) .id)) ≡ true → reach (checksOf h n (entryOf h (entryPlace j))) s ≤ z)
+each-end h n s z w =
+    let g = order-ends (judgeEntry h n) s (tableEnd n) n 0 (tableEnd n) z (omega arith) (λ j y _ l o. beyond (tableEnd (j + 1)) (tableEnd n) _ y (omega arith) (entry-end h n j s y o .0)) w in
+    (g .0, g .1, λ j l u. let v = g .2 j (omega arith) (omega arith) in omega (arith, entry-end h n j s (v .0) (v .1) .1 u))
 
 -- what judging has found in a whole file
 whole : (s : List ℕ) (v : Extent) → answer judging s ≡ ok v → (t : Table) × (answer table s ≡ ok t) × (reach judging s ≡ v .extent) × (tableEnd (t .count) ≤ v .extent) × ((j : ℕ) → j < t .count → isListed (listingOf (entryOf (t .upTo) (entryPlace j) .id)) ≡ true → reach (checksOf (t .upTo) (t .count) (entryOf (t .upTo) (entryPlace j))) s ≤ v .extent)
@@ -103,8 +93,8 @@ whole s v w =
     let b = bind-ok _ _ s v (a .2) in
     let z : b .0 ≡ v .extent = ap (λ (x : Extent). x .extent) (done-ok _ v s (b .2)) in
     let f = table-reach s t (a .1) in
-    let g = each-end (t .upTo) (t .count) (t .count) 0 (tableEnd (t .count)) s (b .0) (omega arith) (b .1) in
-    (t, a .1, simp (a .3, b .3, f, reach-done) (omega arith), omega arith, λ j l u. omega (arith, g .2 j (omega arith) (omega arith) u))
+    let g = each-end (t .upTo) (t .count) s (b .0) (b .1) in
+    (t, a .1, simp (a .3, b .3, f, reach-done) (omega arith), omega arith, λ j l u. omega (arith, g .2 j l u))
 
 -- the extent is the number of bytes that judging needs
 pub extent : (s : List ℕ) (v : Extent) → answer judging s ≡ ok v → reach judging s ≡ v .extent
@@ -125,9 +115,8 @@ lookup-under k s v w =
     item-under : (x : ℕ) (h : List ℕ) (n k : ℕ) (d : Entry) (s : List ℕ) → answer (entryWith h n k) s ≡ ok d → isListed (listingOf k) ≡ true → ((j : ℕ) → j < n → isListed (listingOf (entryOf h (entryPlace j) .id)) ≡ true → reach (checksOf h n (entryOf h (entryPlace j))) s ≤ x) → reach (itemCheck (listingOf (d .id)) h n d) s ≤ x
     item-under x h n k d s f l g =
         let p = with-found s h n k d f in
-        let i : d .id ≡ k = found-id s h n k d f in
-        let m : isListed (listingOf (d .id)) ≡ true = rw i l in
-        subst (λ (d : Entry). reach (checksOf h n d) s ≤ x) (sym (p .1)) (g _ (p .0) (subst (λ (d : Entry). isListed (listingOf (d .id)) ≡ true) (p .1) m))
+        let m : isListed (listingOf (d .id)) ≡ true = rw (p .3) l in
+        subst (λ (d : Entry). reach (checksOf h n d) s ≤ x) (sym (p .2)) (g (p .0) (p .1) (subst (λ (d : Entry). isListed (listingOf (d .id)) ≡ true) (p .2) m))
 
 -- the data that lookup finds lie within the extent
 pub found-under : (k : ℕ) (s : List ℕ) (v : Extent) → answer judging s ≡ ok v → (q : ItemData) → answer (lookingUp k) s ≡ ok q → q .start + q .size ≤ v .extent

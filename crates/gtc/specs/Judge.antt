@@ -1,46 +1,39 @@
 -- GTC: judging.
 -- Assumes nothing.
-use Prim.Native.Nat.{ℕ, zero, suc, _+_, max}
+use Prim.Native.Nat.{ℕ, zero, suc, _+_}
 use mathlib.Core.List.{List}
 use mathlib.Core.Bool.{Bool, not}
-use lib.Dec.{ltb}
 use Rattle.reading.specs.Choice.{pick}
 use Rattle.reading.specs.Number.{le}
 use Rattle.reading.specs.declared.check.Rule.the-variants.{Other}
-use Rattle.reading.specs.Check.{Check, Outcome, passed, failed, short, Answer, ok, refused, done, must, at, _>>=_, _>>_}
-use Rattle.gtc.specs.declared.entry.Entry.{Entry}
+use Rattle.reading.specs.Check.{Check, Outcome, passed, failed, short, Answer, ok, refused, done, must, _>>=_, _>>_}
+use Rattle.reading.specs.Entries.{someWith, inOrder}
 use Rattle.gtc.specs.declared.judge.Verdict.{Verdict}
 use Rattle.gtc.specs.declared.judge.Verdict.the-variants.{Whole, Refused}
 use Rattle.gtc.specs.declared.judge.Judged as Judged
 use Rattle.gtc.specs.declared.judge.Judged.the-variants as judged
 use Rattle.gtc.specs.Table.{table, tableEnd}
-use Rattle.gtc.specs.Entry.{entryOf, entryPlace, idField, firstId}
+use Rattle.gtc.specs.Entry.{entryOf, entryPlace, idField, hasId}
 use Rattle.gtc.specs.Item.{listingOf, isListed, itemCheck, itemEnd}
 
 -- one of the first n entries has the id k
 abbrev pub idAmong : List ℕ → ℕ → ℕ → Bool
-idAmong h k n = ltb (firstId h k n 0) n
+idAmong h k n = someWith (hasId h k) n
 
 -- the requirement that is no comparison with a number: an id that no earlier entry has
 abbrev pub newId : ℕ
 newId = 1
 
--- judging entry i, counted from 0, of n; d is that entry. It answers the end of the item, 0 for an entry whose id is not listed, which is not checked further.
-unfoldable pub judgeEntry : List ℕ → ℕ → ℕ → Entry → Check ℕ
-judgeEntry h n i d =
+-- judging entry i, counted from 0, of n: the end of the item, 0 for an entry whose id is not listed, which is not checked further
+unfoldable pub judgeEntry : List ℕ → ℕ → ℕ → Check ℕ
+judgeEntry h n i =
+    let d = entryOf h (entryPlace i) in
     pick (isListed (listingOf (d .id)))
     (do
       must (idField d) (Other newId (not (idAmong h (d .id) i))) 8
       q ← itemCheck (listingOf (d .id)) h n d
       done (itemEnd q))
     (done 0)
-
--- judging m of n entries, from entry i on, reported from one; x is the largest end so far
-unfoldable pub judgeEntries : List ℕ → ℕ → ℕ → ℕ → ℕ → Check ℕ
-judgeEntries h n zero i x = done x
-judgeEntries h n (suc m) i x = do
-  y ← at (i + 1) (judgeEntry h n i (entryOf h (entryPlace i)))
-  judgeEntries h n m (i + 1) (max x y)
 
 -- the number of unjudged entries among m entries from entry i on
 unfoldable pub unjudgedAmong : List ℕ → ℕ → ℕ → ℕ
@@ -56,7 +49,7 @@ pub record Extent : Type 0 where
 -- judging the n entries of table h
 unfoldable pub judgeTable : List ℕ → ℕ → Check Extent
 judgeTable h n = do
-  x ← judgeEntries h n n 0 (tableEnd n)
+  x ← inOrder (judgeEntry h n) n 0 (tableEnd n)
   done (record { extent = x; unjudged = unjudgedAmong h n 0 })
 
 unfoldable pub judging : Check Extent

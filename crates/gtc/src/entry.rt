@@ -8,9 +8,10 @@ ghost use mathlib.Core.Path.{_≡_};
 ghost use mathlib.Core.List.{List};
 ghost use Prim.Native.Nat.{ℕ, _+_, _-_, _*_, _≤_, _<_};
 ghost use lib.ListN.{length};
-ghost use Rattle.reading.specs.Check.{run};
+ghost use Rattle.reading.specs.Check.{run, failing};
+ghost use Rattle.reading.specs.Entries.{firstWith};
 ghost use Rattle.gtc.specs.Table.{tableEnd};
-ghost use Rattle.gtc.specs.Entry.{entryPlace, entryOf, hasId, firstId, failing, entryWith, entryFound};
+ghost use Rattle.gtc.specs.Entry.{entryPlace, entryOf, hasId, entryWith, entryFound};
 
 // An entry with its place; the signed offset as its unsigned number.
 pub(crate) struct Entry {
@@ -49,7 +50,7 @@ fn has_id(h: &[u8], id: u16, i: usize) -> bool
 // The first entry with this id from entry `from` on, or n.
 pub(crate) fn first_id(h: &[u8], id: u16, from: usize, n: usize) -> usize
     requires { ⌜ (tableEnd n ≤ length (now h)) × (from ≤ n) ⌝ }
-    ensures { λ r. ⌜ (r ≡ firstId (now (h .entry)) id (n - from) from) × (r ≤ n) ⌝ }
+    ensures { λ r. ⌜ (r ≡ firstWith (hasId (now (h .entry)) id) (n - from) from) × (r ≤ n) ⌝ }
 {
     let mut i = from;
     while i < n {

@@ -10,18 +10,20 @@ use reading::check::Explanation;
 use reading::check::Field;
 use reading::check::Rule;
 use reading::check::Test;
+use reading::entries::larger;
 use reading::number::le16;
 ghost use mathlib.Core.Path.{_≡_};
-ghost use Prim.Native.Nat.{_+_, _*_, _≤_, max};
+ghost use Prim.Native.Nat.{_+_, _≤_};
 ghost use lib.ListN.{length};
 ghost use Rattle.reading.specs.Choice.{pick};
 ghost use Rattle.reading.specs.Number.{le};
 ghost use Rattle.reading.specs.Check.{run, answer};
+ghost use Rattle.reading.specs.Entries.{inOrder};
 ghost use Rattle.reading.specs.Explain.{explained};
 ghost use Rattle.gtc.specs.Table.{tableEnd};
-ghost use Rattle.gtc.specs.Entry.{entryOf, entryPlace};
+ghost use Rattle.gtc.specs.Entry.{entryPlace};
 ghost use Rattle.gtc.specs.Item.{listingOf, isListed};
-ghost use Rattle.gtc.specs.Judge.{idAmong, judgeEntry, judgeEntries, unjudgedAmong, judgeTable, judging, judgedEntry, verdict};
+ghost use Rattle.gtc.specs.Judge.{idAmong, judgeEntry, unjudgedAmong, judgeTable, judging, judgedEntry, verdict};
 
 // What judging finds: the file is whole, with its extent and the number of entries that are not judged; or the refusal and its entry.
 pub enum Verdict {
@@ -47,7 +49,7 @@ fn id_among(h: &[u8], id: u16, n: usize) -> bool
 
 fn judge_entry(s: &[u8], h: &[u8], n: usize, i: usize) -> Judged
     requires { ⌜ (tableEnd n ≤ length (now h)) × (i + 1 ≤ n) ⌝ }
-    ensures { λ r. ⌜ judgedEntry r ≡ run (judgeEntry (now (h .entry)) n i (entryOf (now (h .entry)) (entryPlace i))) (now (s .entry)) ⌝ }
+    ensures { λ r. ⌜ judgedEntry r ≡ run (judgeEntry (now (h .entry)) n i) (now (s .entry)) ⌝ }
 {
     let d = entry_at(h, i);
     let listed = is_listed(d.id);
@@ -75,19 +77,10 @@ fn judge_entry(s: &[u8], h: &[u8], n: usize, i: usize) -> Judged
     }
 }
 
-fn larger(a: usize, b: usize) -> usize
-    ensures { λ r. ⌜ r ≡ max a b ⌝ }
-{
-    if a < b {
-        return b;
-    }
-    a
-}
-
 // Why an entry is refused, or the extent.
 fn explain_entries(s: &[u8], h: &[u8], n: usize) -> Explanation
     requires { ⌜ tableEnd n ≤ length (now h) ⌝ }
-    ensures { λ r. ⌜ r ≡ explained (run (judgeEntries (now (h .entry)) n n 0 (tableEnd n)) (now (s .entry))) ⌝ }
+    ensures { λ r. ⌜ r ≡ explained (run (inOrder (judgeEntry (now (h .entry)) n) n 0 (tableEnd n)) (now (s .entry))) ⌝ }
 {
     let mut x = 8 + 6 * n;
     let mut i = 0;

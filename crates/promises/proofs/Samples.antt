@@ -3,10 +3,11 @@
 use mathlib.Core.Path.{refl}
 use Rattle.reading.specs.Number.{be, le, signed}
 use Rattle.reading.specs.Check.{answer}
-use Rattle.abif.specs.Entry.{entryOf, typeOf, listedCheck, rawCheck, sizesCheck, placeCheck, entryCheck}
+use Rattle.reading.specs.Entries.{firstWith, oneWith, inOrder}
+use Rattle.abif.specs.Entry.{entryOf, hasTag, typeOf, listedCheck, rawCheck, sizesCheck, placeCheck, entryCheck}
 use Rattle.abif.specs.Directory.{headerCheck, boundsCheck, directory, opening}
-use Rattle.abif.specs.Judge.{tagAmong, judgeEntry, judgeEntries, judging}
-use Rattle.abif.specs.Lookup.{firstTag, dataOf, itemOf, lookupIn, lookingUp}
+use Rattle.abif.specs.Judge.{judgeEntry, judging}
+use Rattle.abif.specs.Lookup.{dataOf, itemOf, lookupIn, lookingUp}
 use Rattle.abif.specs.Element.{wholeAt, dateAt, timeAt, valueAt, elementOf, elementReading}
 use Rattle.sff.specs.Padding.{padding, padded}
 use Rattle.sff.specs.Header as Header
@@ -26,7 +27,7 @@ use Rattle.gtc.specs.Snp.{callArrays, intensityArrays, snpArrays, snpBytes, isB
 use Rattle.promises.specs.Samples.{twoShorts, threeShorts, monthThirteen, sffHeader, threeBases, noEntries, threeSnps, threeCodes, table, behindTheExtent, AllHold}
 
 pub samples : AllHold table
-unfolding answer be le signed entryOf headerCheck boundsCheck directory opening tagAmong typeOf listedCheck rawCheck sizesCheck placeCheck entryCheck judgeEntry judgeEntries judging firstTag dataOf itemOf lookupIn lookingUp wholeAt dateAt timeAt valueAt elementOf elementReading padding padded Header.headerOf Header.markCheck Header.lengthCheck Header.indexCheck Header.header readHeaderOf present framing skipIndex nextRead walk walkPast beforeRead Judge.ending Judge.judgingReads Judge.judging clipsCheck sumsWithin stepsCheck readOf readContents readFrom readIn readReading Table.markCheck Table.countCheck Table.table Entry.entryOf Entry.hasId Entry.firstId Entry.entryWith listingIn listingOf arrayCount elementsOf snpCheck shapeCheck shapedCheck itemCheck Items.judgeEntry Items.judgeEntries Items.unjudgedAmong Items.judgeTable Items.judging Ids.lookupListed Ids.lookupIn Ids.lookingUp lettersFrom meaning decoding callArrays intensityArrays snpArrays snpBytes isBaseCall snpAt snpOf snpReading twoShorts threeShorts monthThirteen sffHeader threeBases noEntries threeSnps threeCodes
+unfolding answer be le signed firstWith oneWith inOrder entryOf hasTag headerCheck boundsCheck directory opening typeOf listedCheck rawCheck sizesCheck placeCheck entryCheck judgeEntry judging dataOf itemOf lookupIn lookingUp wholeAt dateAt timeAt valueAt elementOf elementReading padding padded Header.headerOf Header.markCheck Header.lengthCheck Header.indexCheck Header.header readHeaderOf present framing skipIndex nextRead walk walkPast beforeRead Judge.ending Judge.judgingReads Judge.judging clipsCheck sumsWithin stepsCheck readOf readContents readFrom readIn readReading Table.markCheck Table.countCheck Table.table Entry.entryOf Entry.hasId Entry.entryWith listingIn listingOf arrayCount elementsOf snpCheck shapeCheck shapedCheck itemCheck Items.judgeEntry Items.unjudgedAmong Items.judgeTable Items.judging Ids.lookupListed Ids.lookupIn Ids.lookingUp lettersFrom meaning decoding callArrays intensityArrays snpArrays snpBytes isBaseCall snpAt snpOf snpReading twoShorts threeShorts monthThirteen sffHeader threeBases noEntries threeSnps threeCodes
 samples = (refl, (refl, (refl, (refl, (refl, (refl, (refl, (refl, (refl, (refl, (refl, (refl, (refl, (refl, (refl, (refl, (refl, (refl, (refl, (refl, tt))))))))))))))))))))
 
 pub behind-the-extent : AllHold behindTheExtent

@@ -75,6 +75,10 @@ need p m = bytes (record { start = p; end = m }) 0 (λ l. done l)
 abbrev pub provided : Bool → ℕ → Check (Unit {0})
 provided b n = must (unsignedField 0 0 0) (Other 0 b) n
 
+-- the test that fails where it does not hold
+abbrev pub failing : ℕ → Test
+failing n = record { field = unsignedField 0 0 0; rule = Other 0 false; number = n }
+
 -- the checks of t, reported at entry or read e
 module _ {A : Type 0} (e : ℕ) where
   unfoldable pub at : Check A → Check A

@@ -1,5 +1,6 @@
-// What the formats share: numbers, floats and parts of lent bytes, and the checks of a reading call.
+// What the formats share: numbers, floats and parts of lent bytes, the checks of a reading call, and those of entries in order.
 pub mod check;
+pub mod entries;
 pub mod float;
 pub mod number;
 pub mod part;

@@ -32,7 +32,7 @@ module _ (s h : List ℕ) (n k : ℕ) (b : Bool) (q : b ≡ isListed (listingOf 
 pub found-place : (l h : List ℕ) (n k : ℕ) (d : Entry) → answer (entryWith h n k) l ≡ ok d → d .place + 6 ≤ tableEnd n
 found-place l h n k d w =
     let f = with-found l h n k d w in
-    let e : d .place ≡ _ = ap (λ (d : Entry). d .place) (f .1) ∙ entry-place h _ in
+    let e : d .place ≡ _ = ap (λ (d : Entry). d .place) (f .2) ∙ entry-place h _ in
     omega arith
 
 -- the data that lookup finds lie within the file

@@ -1,18 +1,19 @@
 use Prim.Native.Nat.{_≤_, _-_}
-use mathlib.Core.Path.{_∙_}
+use mathlib.Core.Path.{sym, _∙_, ap}
 use native.Mathlib.Omega.{arith}
 use borrow.Author.Needs.{needs}
 use Rattle.reading.specs.Check.{run}
 use Rattle.reading.specs.Explain.{explained}
 use Rattle.reading.proofs.Loop.{Left, left-start, left-next, left-stop, left-end}
 use Rattle.gtc.specs.Table.{tableEnd}
-use Rattle.gtc.specs.Judge.{judgeEntries}
-use Rattle.gtc.proofs.judge.Laws.{entries-failed, entries-short, entries-next, entries-end}
+use Rattle.reading.specs.Entries.{inOrder}
+use Rattle.reading.proofs.entries.Laws.{order-failed, order-short, order-next, order-end}
+use Rattle.gtc.specs.Judge.{judgeEntry, judgedEntry}
 use Rattle.gtc.proofs.judge.explain_entries.Statement.{statement}
 use Rattle.gtc.proofs.judge.explain_entries.Tie as tie
 
 abbrev Inv-loop : tie.InvT-loop
-Inv-loop s h n x₀ i₀ x i = (i ≤ n) × Left (λ m. explained (run (judgeEntries h n m i x) s)) n i (explained (run (judgeEntries h n n 0 (tableEnd n)) s))
+Inv-loop s h n x₀ i₀ x i = (i ≤ n) × Left (λ m. explained (run (inOrder (judgeEntry h n) m i x) s)) n i (explained (run (inOrder (judgeEntry h n) n 0 (tableEnd n)) s))
 
 abbrev μ-loop : tie.MeasureT-loop
 μ-loop s h n x₀ i₀ x i = n - i
@@ -41,7 +42,7 @@ returns c =
     let l = a .before .before in
     let g = l .before .before .before .args in
     left-stop _ _ _ _ (l .loop .inv .1) (omega arith) _
-    (entries-failed (g .s .now) (g .h .now) (g .n) (l .loop .i) (l .loop .x) _ (a .judge-entry .ensures) _ (c .before .test .given .1))
+    (order-failed (judgeEntry (g .h .now) (g .n)) (g .s .now) (l .loop .i) (l .loop .x) _ 0 (sym (a .judge-entry .ensures) ∙ ap judgedEntry (c .before .test .given .1)))
 
 enum-known-start : tie.Need-enum-known-start Inv-loop μ-loop
 enum-known-start c = search needs
@@ -55,7 +56,7 @@ returns-2 c =
     let l = a .before .before in
     let g = l .before .before .before .args in
     left-stop _ _ _ _ (l .loop .inv .1) (omega arith) _
-    (entries-short (g .s .now) (g .h .now) (g .n) (l .loop .i) (l .loop .x) _ (a .judge-entry .ensures) _ _ (c .before .start .given .1) (omega arith))
+    (order-short (judgeEntry (g .h .now) (g .n)) (g .s .now) (l .loop .i) (l .loop .x) _ _ 0 (sym (a .judge-entry .ensures) ∙ ap judgedEntry (c .before .start .given .1)) (omega arith))
 
 enum-known-y : tie.Need-enum-known-y Inv-loop μ-loop
 enum-known-y c = search needs
@@ -76,14 +77,14 @@ loop-again c =
     let g = l .before .before .before .args in (
       omega arith,
       left-next _ _ _ _ (l .loop .inv .1) _
-          (entries-next (g .s .now) (g .h .now) (g .n) (l .loop .i) (l .loop .x) _ (a .judge-entry .ensures) _ _ (c .before .before .y .given .1) (c .larger .ensures)),
+          (order-next (judgeEntry (g .h .now) (g .n)) (g .s .now) (l .loop .i) (l .loop .x) _ _ (sym (a .judge-entry .ensures) ∙ ap judgedEntry (c .before .before .y .given .1)) (c .larger .ensures)),
     )
 
 returns-3 : tie.Need-returns-3 Inv-loop μ-loop
 returns-3 c =
     let l = c .before in
     let g = l .before .before .before .args in
-    entries-end (g .s .now) (g .h .now) (g .n) (l .loop .i) (l .loop .x) ∙ left-end _ _ _ _ (l .loop .inv .1) (omega arith) (omega arith)
+    order-end (judgeEntry (g .h .now) (g .n)) (g .s .now) (l .loop .i) (l .loop .x) ∙ left-end _ _ _ _ (l .loop .inv .1) (omega arith) (omega arith)
 
 pub explain-entries-spec : {M : Type 1} → statement M
 explain-entries-spec =

@@ -2,7 +2,8 @@ use Prim.Native.Nat.{ℕ}
 use mathlib.Core.Path.{_∙_, ap}
 use lib.Dec.{ltb}
 use borrow.Author.Needs.{needs}
-use Rattle.gtc.proofs.entry.Laws.{all-of}
+use Rattle.reading.proofs.entries.Laws.{first-all}
+use Rattle.gtc.specs.Entry.{hasId}
 use Rattle.gtc.proofs.judge.id_among.Statement.{statement}
 use Rattle.gtc.proofs.judge.id_among.Tie as tie
 
@@ -12,7 +13,7 @@ first-id-requires c κs = search needs
 returns : tie.Need-returns
 returns c =
     let g = c .before .before .args in
-    ap (λ (m : ℕ). ltb m (g .n)) (c .first-id .ensures .0 ∙ all-of (g .h .now) (g .id) (g .n))
+    ap (λ (m : ℕ). ltb m (g .n)) (c .first-id .ensures .0 ∙ first-all (hasId (g .h .now) (g .id)) (g .n))
 
 pub id-among-spec : {M : Type 1} → statement M
 id-among-spec = tie.close (tie.spec first-id-requires returns)
