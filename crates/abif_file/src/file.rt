@@ -1,4 +1,5 @@
 // The opened file as a struct: its bytes, lent, with its directory's place and count. Each call takes it apart; one that was made by hand is as safe as one that opening gave.
+use crate::list;
 use crate::listing::RawEntry;
 use crate::opened;
 use abif::directory;
@@ -97,5 +98,7 @@ pub fn list<'a>(f: AbifFile<'a>, out: &mut [RawEntry]) -> Copied
     ensures { λ r. ⌜ (copied r ≡ mapAnswer length (answer (ofOpened (f .entry .place) (f .entry .count) (listing (length (now (out .entry))))) (now (f .entry .bytes))))
         × (now (out .exit) ≡ filled (answer (ofOpened (f .entry .place) (f .entry .count) (listing (length (now (out .entry))))) (now (f .entry .bytes))) (now (out .entry))) ⌝ }
 {
-    opened::list(f.bytes, f.place, f.count, out)
+    let r = opened::list_answer(f.bytes, f.place, f.count, out.len());
+    list::fill(f.bytes, out, list::to_list(r));
+    r
 }

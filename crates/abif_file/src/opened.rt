@@ -1,6 +1,5 @@
 // The calls of an opened file, on its bytes and its directory's place and count, which may be any numbers.
 use crate::list;
-use crate::listing::RawEntry;
 use abif::directory::Opened;
 use abif::directory::open;
 use abif::element;
@@ -14,7 +13,6 @@ use reading::part::part;
 ghost use mathlib.Core.Path.{_≡_};
 ghost use lib.ListN.{length};
 ghost use Rattle.reading.specs.Check.{answer, mapAnswer};
-ghost use Rattle.reading.specs.Lent.{filled};
 ghost use Rattle.reading.specs.Part.{shown, handedBack};
 ghost use Rattle.abif.specs.Lookup.{lookingUp, found, dataSpan};
 ghost use Rattle.abif.specs.Element.{elementReading, element as elementAnswer};
@@ -97,21 +95,11 @@ pub fn text_part(s: &[u8], place: u64, count: u64, name: u32, number: u32) -> &[
 }
 
 // What a list of this room is told.
-fn list_answer(s: &[u8], place: u64, count: u64, room: usize) -> Copied
+pub(crate) fn list_answer(s: &[u8], place: u64, count: u64, room: usize) -> Copied
     ensures { λ r. ⌜ copied r ≡ mapAnswer length (answer (ofOpened place count (listing room)) (now (s .entry))) ⌝ }
 {
     match same_directory(s, place, count) {
         Reopened::Refused(n) => Copied::Refused(n),
         Reopened::Same => list::list_answer(s, room),
     }
-}
-
-// All entries, in file order, at the front of the lent list, or a refusal that leaves it as it was.
-pub fn list(s: &[u8], place: u64, count: u64, out: &mut [RawEntry]) -> Copied
-    ensures { λ r. ⌜ (copied r ≡ mapAnswer length (answer (ofOpened place count (listing (length (now (out .entry))))) (now (s .entry))))
-        × (now (out .exit) ≡ filled (answer (ofOpened place count (listing (length (now (out .entry))))) (now (s .entry))) (now (out .entry))) ⌝ }
-{
-    let r = list_answer(s, place, count, out.len());
-    list::fill(s, out, list::to_list(r));
-    r
 }

@@ -1,4 +1,4 @@
--- The calls of `to_list` and `fill` that end a listing, for the walks of `list::list` and `opened::list`: what each is asked, that the caller has it, and what it says.
+-- The calls of `to_list` and `fill` that end a listing, for the walks of `list::list` and `file::list`: what each is asked, that the caller has it, and what it says.
 -- The list goes to `fill` at its own lifetime, share and name, and is given up for good.
 -- The lemmas under a model take `Given`. The rest assumes nothing.
 use mathlib.Core.Path.{_≡_, refl}
