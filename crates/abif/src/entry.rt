@@ -57,14 +57,17 @@ pub(crate) fn entry_at(h: &[u8], p: usize) -> Entry
     }
 }
 
-// Entry i, counted from 0, of the directory at p has the tag of this name and number.
+// Entry i, counted from 0, of the directory at p has the tag of this name and number. A part of a fixed length is read with no test of its
+// length, so a loop over this is fast.
 fn has_tag(h: &[u8], p: usize, name: u32, number: u32, i: usize) -> bool
     requires { ⌜ p + 28 * i + 28 ≤ length (now h) ⌝ }
     ensures { λ r. ⌜ r ≡ hasTag (now (h .entry)) p name number i ⌝ }
 {
-    let e = p + 28 * i;
-    if be32(h, e) == name {
-        return be32(h, e + 4) == number;
+    let start = p + 28 * i;
+    let end = start + 8;
+    let tag = &h[start..end];
+    if be32(tag, 0) == name {
+        return be32(tag, 4) == number;
     }
     false
 }

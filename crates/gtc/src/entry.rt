@@ -39,12 +39,14 @@ pub(crate) fn entry_at(h: &[u8], i: usize) -> Entry
     }
 }
 
-// Entry i has this id.
+// Entry i has this id. A part of a fixed length is read with no test of its length, so a loop over this is fast.
 fn has_id(h: &[u8], id: u16, i: usize) -> bool
     requires { ⌜ tableEnd (i + 1) ≤ length (now h) ⌝ }
     ensures { λ r. ⌜ r ≡ hasId (now (h .entry)) id i ⌝ }
 {
-    le16(h, 8 + 6 * i) == id
+    let start = 8 + 6 * i;
+    let end = start + 2;
+    le16(&h[start..end], 0) == id
 }
 
 // The first entry with this id from entry `from` on, or n.
