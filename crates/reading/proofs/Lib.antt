@@ -5,6 +5,7 @@ pub mod Explained
 pub mod Reach
 pub mod Loop
 pub mod Fill
+pub mod Fold
 pub mod Parts
 pub mod Product
 pub mod Signs

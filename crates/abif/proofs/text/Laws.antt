@@ -1,10 +1,10 @@
 -- The text of an item, from the answers of its parts.
 -- Assumes nothing.
-use Prim.Native.Nat.{ℕ, zero, suc, _+_, _-_, _≤_, _<_}
-use mathlib.Core.Path.{_≡_, refl, sym, _∙_, ap}
+use Prim.Native.Nat.{ℕ, suc, _+_, _-_, _≤_, _<_}
+use mathlib.Core.Path.{_≡_, refl, _∙_, ap}
 use mathlib.Core.List.{List}
 use mathlib.Core.Bool.{Bool, true, false}
-use lib.ListN.{length, take, drop, getD, length-take, length-drop}
+use lib.ListN.{length, take, drop, getD, length-take}
 use lib.Seq.{getD-take, getD-drop}
 use native.Mathlib.Omega.{arith}
 use lib.Dec.{eqb}
@@ -13,6 +13,7 @@ use Rattle.reading.specs.Number.{be}
 use Rattle.reading.specs.Choice.{pick}
 use Rattle.reading.specs.Check.{ok, refused, answer, holds}
 use Rattle.reading.specs.Part.{Span}
+use Rattle.reading.proofs.Fold.{Same, fold-same, window-length}
 use Rattle.reading.proofs.Steps.{answer-bind, answer-must, answer-done, answer-need-present}
 use Rattle.reading.proofs.Passed.{bind-ok, done-ok, must-ok}
 use Rattle.abif.specs.declared.lookup.ItemData.{ItemData}
@@ -36,22 +37,20 @@ unfolding zeroAmong
 zero-end l i true = refl
 zero-end l i false = refl
 
--- the n bytes from place p on, in the part that they fill
-zero-same : (l m : List ℕ) (p q n : ℕ) → ((i : ℕ) → i < n → getD l (p + i) 0 ≡ getD m (q + i) 0) → zeroAmong l p n ≡ zeroAmong m q n
+abbrev byteAt : List ℕ → ℕ → ℕ
+byteAt l p = getD l p 0
+
+zero-same : (l m : List ℕ) (p q n : ℕ) → Same byteAt l p m q n → zeroAmong l p n ≡ zeroAmong m q n
 unfolding zeroAmong
-zero-same l m p q zero h = refl
-zero-same l m p q (suc n) h =
-    let a : p + 0 ≡ p = omega arith in
-    let b : q + 0 ≡ q = omega arith in
-    let e : getD l p 0 ≡ getD m q 0 = ap (λ (k : ℕ). getD l k 0) (sym a) ∙ h 0 (omega arith) ∙ ap (λ (k : ℕ). getD m k 0) b in
-    rw (e, zero-same l m (p + 1) (q + 1) n (λ i k. ap (λ (j : ℕ). getD l j 0) (omega arith) ∙ h (suc i) (omega arith) ∙ ap (λ (j : ℕ). getD m j 0) (omega arith)))
+zero-same = fold-same byteAt false (λ b found. pick (eqb b 0) true found) zeroAmong (λ l p. refl) (λ l p n. refl)
 
-pub zero-window : (l : List ℕ) (p n : ℕ) → p + n ≤ length l → zeroAmong (take (p + n - p) (drop p l)) 0 (length (take (p + n - p) (drop p l))) ≡ zeroAmong l p n
-zero-window l p n h =
-    let k : p + n - p ≡ n = omega arith in
-    let z : length (take n (drop p l)) ≡ n = simp (length-take, length-drop) (omega arith) in
-    rw (k, z) (zero-same (take n (drop p l)) l 0 p n (λ i q. getD-take n (drop p l) (0 + i) 0 (omega arith) ∙ getD-drop p l (0 + i) 0 ∙ ap (λ (j : ℕ). getD l j 0) (omega arith)))
+-- the n bytes from place p on, in the part that they fill, whose size the code computes as k
+pub zero-window : (l : List ℕ) (p n k : ℕ) → k ≡ n → p + n ≤ length l → zeroAmong (take k (drop p l)) 0 (length (take k (drop p l))) ≡ zeroAmong l p n
+zero-window l p n k e h =
+    rw (window-length l p n k e h)
+    (zero-same (take k (drop p l)) l 0 p n (λ i q. getD-take k (drop p l) (0 + i) 0 (omega arith) ∙ getD-drop p l (0 + i) 0 ∙ ap (byteAt l) (omega arith)))
 
+-- and in a beginning
 pub zero-taken : (l : List ℕ) (n : ℕ) → n ≤ length l → zeroAmong (take n l) 0 (length (take n l)) ≡ zeroAmong l 0 n
 zero-taken l n h =
     let z : length (take n l) ≡ n = simp length-take (omega arith) in

@@ -6,12 +6,13 @@ use mathlib.Core.List.{List}
 use mathlib.Core.Bool.{Bool, true, false}
 use native.Mathlib.Omega.{arith}
 use native.Mathlib.Nat.{add-zero, zero-add}
-use lib.ListN.{length, take, drop, length-take, length-drop}
+use lib.ListN.{length, take, drop}
 use lib.Dec.{leb}
 use borrow.Author.Tests.{le-leb, lt-leb, leb-true, leb-false, ne-eqb}
 use Rattle.reading.specs.Choice.{pick}
 use Rattle.reading.specs.Number.{be}
 use Rattle.reading.specs.Check.{ok, refused, answer, holds}
+use Rattle.reading.proofs.Fold.{Same, same-first, fold-same, window-length}
 use Rattle.reading.proofs.Loop.{Left}
 use Rattle.reading.proofs.Steps.{answer-bind, answer-must}
 use Rattle.reading.proofs.Width.{be-in-part, be-taken}
@@ -53,44 +54,30 @@ sums-total f l p t (suc n) h = go (leb (t + flowStep l p) f) refl (sums-total f 
         sym (lt-leb (t + (flowStep l p + stepSum l (p + 1) n)) f (omega arith))
 
 -- the same steps at two places have the same sums
-abbrev pub Same : List ℕ → ℕ → List ℕ → ℕ → ℕ → Type 0
-Same l p m q n = (i : ℕ) → i < n → flowStep l (p + i) ≡ flowStep m (q + i)
-
 module _ (l m : List ℕ) where
-  pub same-first : (p q n : ℕ) → Same l p m q (suc n) → flowStep l p ≡ flowStep m q
-  same-first p q n h = ap (be 1 l) (omega arith) ∙ h 0 (omega arith) ∙ ap (be 1 m) (omega arith)
-
-  pub same-rest : (p q n : ℕ) → Same l p m q (suc n) → Same l (p + 1) m (q + 1) n
-  same-rest p q n h i k = ap (be 1 l) (omega arith) ∙ h (suc i) (omega arith) ∙ ap (be 1 m) (omega arith)
-
-  sums-same : (f p q t n : ℕ) → Same l p m q n → sumsWithin f l p t n ≡ sumsWithin f m q t n
+  sums-same : (f p q t n : ℕ) → Same flowStep l p m q n → sumsWithin f l p t n ≡ sumsWithin f m q t n
   unfolding sumsWithin
-  sums-same f p q t zero h = refl
-  sums-same f p q t (suc n) h = rw (same-first p q n h, sums-same f (p + 1) (q + 1) (t + flowStep m q) n (same-rest p q n h))
+  sums-same f p q t n h = ap (λ (g : ℕ → Bool). g t) (fold-same flowStep (λ t. true) (λ b g t. pick (leb (t + b) f) (g (t + b)) false) (λ l p n t. sumsWithin f l p t n) (λ l p. refl) (λ l p n. refl) l m p q n h)
 
-  pub sum-same : (p q n : ℕ) → Same l p m q n → stepSum l p n ≡ stepSum m q n
+  sum-same : (p q n : ℕ) → Same flowStep l p m q n → stepSum l p n ≡ stepSum m q n
   unfolding stepSum
-  sum-same p q zero h = refl
-  sum-same p q (suc n) h = rw (same-first p q n h, sum-same (p + 1) (q + 1) n (same-rest p q n h))
+  sum-same p q n h = fold-same flowStep 0 (λ b t. b + t) stepSum (λ l p. refl) (λ l p n. refl) l m p q n h
 
-  steps-same : (s : List ℕ) (f p q n : ℕ) → Same l p m q n → answer (stepsCheck f l p n) s ≡ answer (stepsCheck f m q n) s
+  steps-same : (s : List ℕ) (f p q n : ℕ) → Same flowStep l p m q n → answer (stepsCheck f l p n) s ≡ answer (stepsCheck f m q n) s
   unfolding stepsCheck holds
   steps-same s f p q zero h = simp (answer-bind, answer-must, sums-same f p q 0 0 h)
-  steps-same s f p q (suc n) h = simp (answer-bind, answer-must, ne-eqb (suc n) 0 (λ e. omega arith), same-first p q n h, sums-same f p q 0 (suc n) h)
+  steps-same s f p q (suc n) h = simp (answer-bind, answer-must, ne-eqb (suc n) 0 (λ e. omega arith), same-first flowStep l m p q n h, sums-same f p q 0 (suc n) h)
 
 -- the n steps from place p on are the steps of the part that they fill, whose size the code computes as k
 module _ (l : List ℕ) (p n k : ℕ) (e : k ≡ n) (h : p + n ≤ length l) where
-  pub window-length : length (take k (drop p l)) ≡ n
-  window-length = simp (length-take, length-drop) (omega arith)
-
-  pub window-same : Same (take k (drop p l)) 0 l p n
+  window-same : Same flowStep (take k (drop p l)) 0 l p n
   window-same i m = be-in-part 1 p k (0 + i) l (omega arith) ∙ ap (be 1 l) (omega arith)
 
   pub steps-window : (f : ℕ) (s : List ℕ) → answer (stepsCheck f (take k (drop p l)) 0 (length (take k (drop p l)))) s ≡ answer (stepsCheck f l p n) s
-  steps-window f s = rw window-length (steps-same (take k (drop p l)) l s f 0 p n window-same)
+  steps-window f s = rw (window-length l p n k e h) (steps-same (take k (drop p l)) l s f 0 p n window-same)
 
   pub sum-window : stepSum (take k (drop p l)) 0 (length (take k (drop p l))) ≡ stepSum l p n
-  sum-window = rw window-length (sum-same (take k (drop p l)) l 0 p n window-same)
+  sum-window = rw (window-length l p n k e h) (sum-same (take k (drop p l)) l 0 p n window-same)
 
 -- and those of a beginning that has them
 pub sum-taken : (l : List ℕ) (m p n : ℕ) → p + n ≤ m → stepSum (take m l) p n ≡ stepSum l p n

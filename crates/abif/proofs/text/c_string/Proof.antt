@@ -1,4 +1,4 @@
-use Prim.Native.Nat.{_-_}
+use Prim.Native.Nat.{_+_, _-_}
 use mathlib.Core.Path.{_∙_}
 use native.Mathlib.Omega.{arith}
 use Rattle.abif.proofs.text.Laws.{zero-window, c-bad, c-inner, c-good}
@@ -38,13 +38,13 @@ has-zero-requires c κs = search needs
 returns-2 : tie.Need-returns-2
 returns-2 c l =
     let g = c .before .before .before .before .before .before .before .before .args in
-    let z = c .before .has-zero .ensures ∙ zero-window (g .l .now) (g .q .start) (g .q .size - 1) (omega arith) in
+    let z = c .before .has-zero .ensures ∙ zero-window (g .l .now) (g .q .start) (g .q .size - 1) (g .q .start + (g .q .size - 1) - g .q .start) (omega arith) (omega arith) in
     c-inner (g .q) (g .l .now) l _ (c .before .before .before .before .byte .ensures) (c .before .before .before .if1 .left) _ z (c .if2 .taken)
 
 returns-3 : tie.Need-returns-3
 returns-3 c l =
     let g = c .before .before .before .before .before .before .before .before .args in
-    let z = c .before .has-zero .ensures ∙ zero-window (g .l .now) (g .q .start) (g .q .size - 1) (omega arith) in
+    let z = c .before .has-zero .ensures ∙ zero-window (g .l .now) (g .q .start) (g .q .size - 1) (g .q .start + (g .q .size - 1) - g .q .start) (omega arith) (omega arith) in
     c-good (g .q) (g .l .now) l _ (c .before .before .before .before .byte .ensures) (c .before .before .before .if1 .left) _ z (c .if2 .left)
 
 pub c-string-spec : {M : Type 1} → statement M
