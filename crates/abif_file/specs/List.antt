@@ -27,6 +27,6 @@ abbrev pub toList : Answer ℕ → ℕ
 toList (ok n) = n
 toList (refused n e) = 0
 
--- the first n entries of the directory whose place the header tells are there, and within a machine's numbers
+-- the first n entries of the directory whose place the header tells are there
 abbrev pub Present : List ℕ → ℕ → Type 0
-Present s n = (i : ℕ) → i < n → (i < 0x100000000) × (be 4 s 26 + 28 * i + 28 ≤ length s)
+Present s n = (i : ℕ) → i < n → be 4 s 26 + 28 * i + 28 ≤ length s

@@ -7,31 +7,23 @@ use abif::numbers::Copied;
 use reading::number::be32;
 ghost use mathlib.Core.Path.{_≡_};
 ghost use mathlib.Core.List.{_++_};
-ghost use Prim.Native.Nat.{_+_, _*_, _≤_, _<_};
+ghost use Prim.Native.Nat.{_≤_};
 ghost use lib.ListN.{length, drop};
 ghost use Rattle.reading.specs.Number.{be};
 ghost use Rattle.reading.specs.Check.{answer, mapAnswer};
 ghost use Rattle.reading.specs.Lent.{filled};
-ghost use Rattle.abif_file.specs.Listing.{rawEntry};
 ghost use Rattle.abif.specs.Numbers.{copied};
 ghost use Rattle.abif_file.specs.List.{rawEntries, listing, toList, Present};
 
-// Entry i, from nought, of the directory whose place the header tells.
-fn entry_at(s: &[u8], i: usize) -> RawEntry
-    requires { ⌜ (i < 0x100000000) × (be 4 (now s) 26 + 28 * i + 28 ≤ length (now s)) ⌝ }
-    ensures { λ r. ⌜ r ≡ rawEntry (now (s .entry)) (be 4 (now (s .entry)) 26 + 28 * i) ⌝ }
-{
-    raw_entry(s, be32(s, 26), i as u32)
-}
-
-// The first n entries, each at its place in the list; the records past them stay.
+// The first n entries of the directory whose place the header tells, each at its place in the list; the records past them stay.
 pub(crate) fn fill(s: &[u8], out: &mut [RawEntry], n: usize)
     requires { ⌜ (n ≤ length (now out)) × Present (now s) n ⌝ }
     ensures { λ _. ⌜ now (out .exit) ≡ rawEntries (now (s .entry)) (be 4 (now (s .entry)) 26) n ++ drop n (now (out .entry)) ⌝ }
 {
+    let place = be32(s, 26);
     let mut i = 0;
     while i < n {
-        out[i] = entry_at(s, i);
+        out[i] = raw_entry(s, place, i);
         i += 1;
     }
 }

@@ -31,11 +31,11 @@ pub enum Listed {
 }
 
 // Entry i, from nought, of a directory at this place. A part of a fixed length is read with no test of its length, so a loop over this is fast.
-pub(crate) fn raw_entry(h: &[u8], place: u32, i: u32) -> RawEntry
+pub(crate) fn raw_entry(h: &[u8], place: u32, i: usize) -> RawEntry
     requires { ⌜ place + 28 * i + 28 ≤ length (now h) ⌝ }
     ensures { λ r. ⌜ r ≡ rawEntry (now (h .entry)) (place + 28 * i) ⌝ }
 {
-    let p = place as usize + 28 * i as usize;
+    let p = place as usize + 28 * i;
     let end = p + 28;
     let e = &h[p..end];
     RawEntry {
@@ -64,7 +64,7 @@ pub fn entry(s: &[u8], index: u64) -> Listed
                 return Listed::Refused(7);
             }
             let end = place as usize + 28 * count as usize;
-            let i = (index - 1) as u32;
+            let i = (index - 1) as usize;
             Listed::At(raw_entry(&s[..end], place, i))
         }
     }

@@ -84,7 +84,7 @@ module _ (room : ℕ) (s : List ℕ) where
       let q = directory-lies s d h in
       let k = length-entries s (d .count) (be 4 s 26) in
       let f : rawEntries (d .upTo) (d .place) (d .count) ≡ rawEntries s (be 4 s 26) (d .count) = rw (q .bytes, q .told) (entries-taken s (be 4 s 26 + 28 * d .count) (d .count) (be 4 s 26) (omega arith)) in
-      rw f (record { few = rw k l; there = rw k (λ i h. (omega arith, omega (arith, q .within, q .told, q .few))); whole = λ xs. rw k })
+      rw f (record { few = rw k l; there = rw k (λ i h. omega (arith, q .within, q .told)); whole = λ xs. rw k })
 
   pub listing-told : Told room s (answer (listing room) s)
   unfolding listing holds

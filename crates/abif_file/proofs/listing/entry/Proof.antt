@@ -48,9 +48,6 @@ mul-end c = search needs
 add-end : tie.Need-add-end
 add-end c = search needs
 
-cast-i : tie.Need-cast-i
-cast-i c = search needs
-
 slice-aggregate-raw-entry : tie.Need-slice-aggregate-raw-entry
 slice-aggregate-raw-entry c =
     let a = c .before .before .before .before in
@@ -94,7 +91,6 @@ entry-spec =
     cast-end-2
     mul-end
     add-end
-    cast-i
     slice-aggregate-raw-entry
     raw-entry-requires
     returns-3
