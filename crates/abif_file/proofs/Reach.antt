@@ -9,7 +9,7 @@ use Rattle.reading.proofs.Reach.{reach-under, reach-must-under, reach-done-unde
 use Rattle.abif.specs.Directory.{Directory, directory}
 use Rattle.abif.specs.Judge.{judging}
 use Rattle.abif.proofs.Reach.{directory-under}
-use Rattle.abif_file.specs.Listing.{entryReading}
+use Rattle.abif_file.specs.Entry.{entryReading}
 use Rattle.abif_file.specs.List.{listing}
 use Rattle.abif_file.specs.Opened.{sameDirectory, ofOpened}
 

@@ -1,4 +1,4 @@
-pub mod Listing
+pub mod Entry
 pub mod List
 pub mod Opened
 pub mod File

@@ -6,9 +6,9 @@ use lib.Dec.{leb}
 use lib.ListN.{length}
 use Rattle.reading.specs.Number.{be}
 use Rattle.reading.specs.Check.{Check, Answer, ok, refused, done, provided, _>>=_, _>>_}
-use Rattle.abif_file.specs.declared.listing.RawEntry.{RawEntry}
+use Rattle.abif_file.specs.declared.entry.RawEntry.{RawEntry}
 use Rattle.abif.specs.Directory.{directory}
-use Rattle.abif_file.specs.Listing.{rawEntry}
+use Rattle.abif_file.specs.Entry.{rawEntry}
 
 -- the n entries from place p on, in file order
 unfoldable pub rawEntries : List ℕ → ℕ → ℕ → List RawEntry

@@ -1,6 +1,6 @@
 // The opened file as a struct: its bytes, lent, with its directory's place and count. Each call takes it apart; one that was made by hand is as safe as one that opening gave.
+use crate::entry::RawEntry;
 use crate::list;
-use crate::listing::RawEntry;
 use crate::opened;
 use abif::directory;
 use abif::directory::Opened;

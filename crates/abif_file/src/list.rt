@@ -1,6 +1,6 @@
 // The raw entries of the directory, into a list of records that the caller lends.
-use crate::listing::RawEntry;
-use crate::listing::raw_entry;
+use crate::entry::RawEntry;
+use crate::entry::raw_entry;
 use abif::directory::Opened;
 use abif::directory::open;
 use abif::numbers::Copied;

@@ -1,10 +1,10 @@
 // The ABIF calls that list the directory into a list of records, lent by the caller.
 use crate::answers::Listed;
 use crate::jt_abif::as_listed;
+use abif_file::entry::RawEntry;
 use abif_file::file;
 use abif_file::file::AbifFile;
 use abif_file::list;
-use abif_file::listing::RawEntry;
 ghost use mathlib.Core.Path.{_≡_};
 ghost use lib.ListN.{length};
 ghost use Rattle.reading.specs.Check.{answer, mapAnswer};

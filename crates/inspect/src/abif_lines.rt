@@ -8,9 +8,9 @@ use abif::directory::Opened;
 use abif::directory::open;
 use abif::judge::Verdict;
 use abif::judge::judge;
-use abif_file::listing::Listed;
-use abif_file::listing::RawEntry;
-use abif_file::listing::entry;
+use abif_file::entry::EntryFound;
+use abif_file::entry::RawEntry;
+use abif_file::entry::entry;
 
 // Data of 4 bytes or fewer stand in the entry itself.
 fn put_place(d: RawEntry) {
@@ -41,7 +41,7 @@ fn put_entry(d: RawEntry) {
 }
 
 fn put_entry_at(s: &[u8], index: u64) {
-    if let Listed::At(d) = entry(s, index) {
+    if let EntryFound::At(d) = entry(s, index) {
         put_entry(d);
     }
 }

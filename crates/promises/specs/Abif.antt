@@ -8,14 +8,14 @@ use lib.ListN.{length, drop}
 use Rattle.reading.specs.Check.{Check, ok, refused, answer}
 use Rattle.reading.specs.Part.{Span}
 use Rattle.abif.specs.declared.lookup.ItemData.{ItemData}
-use Rattle.abif_file.specs.declared.listing.RawEntry.{RawEntry}
+use Rattle.abif_file.specs.declared.entry.RawEntry.{RawEntry}
 use Rattle.abif.specs.Directory.{opening}
 use Rattle.abif.specs.Judge.{judging}
 use Rattle.abif.specs.Lookup.{lookingUp, dataSpan}
 use Rattle.abif.specs.Element.{Value, elementReading}
 use Rattle.abif.specs.Numbers.{numbersReading}
 use Rattle.abif.specs.Text.{textReading}
-use Rattle.abif_file.specs.Listing.{entryReading}
+use Rattle.abif_file.specs.Entry.{entryReading}
 use Rattle.abif_file.specs.List.{listing}
 use Rattle.abif_file.specs.Opened.{ofOpened}
 use Rattle.promises.specs.Format.{Format}

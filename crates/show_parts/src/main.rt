@@ -2,8 +2,8 @@
 // refused, and raw entries by their number.
 use abif::lookup::data_part;
 use abif::text::text_part;
-use abif_file::listing::Listed;
-use abif_file::listing::entry;
+use abif_file::entry::EntryFound;
+use abif_file::entry::entry;
 use libc::STDIN_FILENO;
 use libc::STDOUT_FILENO;
 
@@ -18,10 +18,10 @@ fn put_part(part: &[u8]) {
 // The name's number of an entry, or the refusal.
 fn put_entry(s: &[u8], index: u64) {
     match entry(s, index) {
-        Listed::At(d) => {
+        EntryFound::At(d) => {
             io::print_decimal(STDOUT_FILENO, d.name as u64);
         }
-        Listed::Refused(n) => {
+        EntryFound::Refused(n) => {
             io::write_all(STDOUT_FILENO, b"refused ");
             io::print_decimal(STDOUT_FILENO, n as u64);
         }

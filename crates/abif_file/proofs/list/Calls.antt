@@ -29,10 +29,10 @@ use denote.Triple.Entry.{onEntry}
 use denote.Triple.Spec.{tripleOf}
 use denote.Triple.Clauses.{ensured, lasts}
 use denote.Triple.Walked.{says}
-use Rattle.abif_file.specs.declared.listing.RawEntry.{RawEntry}
+use Rattle.abif_file.specs.declared.entry.RawEntry.{RawEntry}
 use Rattle.abif.specs.declared.numbers.Copied.{Copied}
 use Rattle.abif.specs.Numbers.{copied}
-use Rattle.abif_file.proofs.listing.RawEntry as T
+use Rattle.abif_file.proofs.entry.RawEntry as T
 use Rattle.abif.proofs.numbers.Copied as S
 use Rattle.abif.proofs.numbers.Copied.Laws as S′
 use Rattle.abif_file.specs.List.{toList, Present}

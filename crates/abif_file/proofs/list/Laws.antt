@@ -14,10 +14,10 @@ use Rattle.reading.proofs.Fill.{Filling, fill-start, fill-next, fill-end}
 use Rattle.reading.proofs.Width.{be-taken}
 use Rattle.reading.proofs.Steps.{after, answer-bind, answer-must, answer-done}
 use Rattle.reading.proofs.Passed.{bind-ok, done-ok, must-ok}
-use Rattle.abif_file.specs.declared.listing.RawEntry.{RawEntry}
+use Rattle.abif_file.specs.declared.entry.RawEntry.{RawEntry}
 use Rattle.abif.specs.Directory.{Directory, directory, opening}
 use Rattle.abif.specs.declared.numbers.Copied.{Copied}
-use Rattle.abif_file.specs.Listing.{rawEntry}
+use Rattle.abif_file.specs.Entry.{rawEntry}
 use Rattle.abif.specs.Numbers.{copied}
 use Rattle.abif.proofs.directory.Laws.{opened-at, directory-lies}
 use Rattle.abif_file.specs.List.{rawEntries, listing, toList, Present}

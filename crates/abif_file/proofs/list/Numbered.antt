@@ -11,9 +11,9 @@ use Rattle.reading.specs.Choice.{isNumberOf}
 use Rattle.reading.specs.Check.{ok, answer, holds, provided}
 use Rattle.reading.proofs.Steps.{answer-must, answer-done}
 use Rattle.reading.proofs.Passed.{bind-ok, bind-answered, done-ok, ok-inj}
-use Rattle.abif_file.specs.declared.listing.RawEntry.{RawEntry}
+use Rattle.abif_file.specs.declared.entry.RawEntry.{RawEntry}
 use Rattle.abif.specs.Directory.{directory, opening}
-use Rattle.abif_file.specs.Listing.{rawEntry, entryReading}
+use Rattle.abif_file.specs.Entry.{rawEntry, entryReading}
 use Rattle.abif.proofs.Passing.{opening-passes}
 use Rattle.abif_file.specs.List.{rawEntries, listing}
 use Rattle.abif_file.proofs.list.Laws.{length-entries}

@@ -21,7 +21,7 @@ use denote.Triple.Spec.{tripleOf}
 use denote.Triple.Clauses.{ensured, lasts}
 use Rattle.abif.specs.declared.numbers.Copied.{Copied}
 use Rattle.abif.specs.Numbers.{copied}
-use Rattle.abif_file.proofs.listing.RawEntry as R
+use Rattle.abif_file.proofs.entry.RawEntry as R
 use Rattle.abif.proofs.numbers.Copied as S
 use Rattle.abif.proofs.numbers.Copied.Laws as S′
 use Rattle.capi.specs.declared.answers.Listed.{Listed}

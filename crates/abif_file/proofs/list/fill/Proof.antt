@@ -49,21 +49,21 @@ use denote.Triple.Walked.{says, needs, Stays, stay-slice, stay-none, stay-none-s
 use denote.Exit.{yes}
 use denote.Signature.{plain}
 use Rattle.reading.specs.Number.{be}
-use Rattle.abif_file.specs.declared.listing.RawEntry.{RawEntry}
-use Rattle.abif_file.specs.Listing.{rawEntry}
+use Rattle.abif_file.specs.declared.entry.RawEntry.{RawEntry}
+use Rattle.abif_file.specs.Entry.{rawEntry}
 use Rattle.abif_file.specs.List.{Present}
-use Rattle.abif_file.proofs.listing.RawEntry as T″
-use Rattle.abif_file.proofs.listing.RawEntry.Laws as T′
+use Rattle.abif_file.proofs.entry.RawEntry as T″
+use Rattle.abif_file.proofs.entry.RawEntry.Laws as T′
 use Rattle.abif_file.proofs.list.Laws.{written, length-written, all-written}
 use Rattle.abif_file.proofs.list.Calls.{hd}
 use Rattle.reading.proofs.number.be32 as head
 use Rattle.reading.proofs.number.be32.Symbol as head-def
 use Rattle.reading.proofs.number.be32.Symbol.{name as #reading·number·be32}
 use Rattle.reading.proofs.number.be32.Met as head-thm
-use Rattle.abif_file.proofs.listing.raw_entry as one
-use Rattle.abif_file.proofs.listing.raw_entry.Symbol as one-def
-use Rattle.abif_file.proofs.listing.raw_entry.Symbol.{name as #abif-file·listing·raw-entry}
-use Rattle.abif_file.proofs.listing.raw_entry.Met as one-thm
+use Rattle.abif_file.proofs.entry.raw_entry as one
+use Rattle.abif_file.proofs.entry.raw_entry.Symbol as one-def
+use Rattle.abif_file.proofs.entry.raw_entry.Symbol.{name as #abif-file·entry·raw-entry}
+use Rattle.abif_file.proofs.entry.raw_entry.Met as one-thm
 use Rattle.abif_file.proofs.list.fill.Key.{name as #abif-file·list·fill}
 use Rattle.abif_file.proofs.list.fill as fill
 use Rattle.abif_file.proofs.list.fill.Statement as stated
@@ -186,7 +186,7 @@ module _ {M : Type 1} (𝓤 : URA M) (H : Heap 𝓤) (A : Atoms 𝓤) (W : Given
     said : (r : RawEntry) → ent 𝓤 (ensured 𝓤 H A one.ended (one.clauses 𝓤 H A mem run) (κ, tt) args tt r) (fact 𝓤 (r ≡ rawEntry (now s) (place + 28 * i)))
     said r = exE 𝓤 _ (λ ws. snd∗ 𝓤 (sem 𝓤 H A (lasts one.ended (κ, tt) args ws)) (fact 𝓤 (r ≡ rawEntry (now s) (place + 28 * i))))
 
-  module _ (𝓣 : Tables 𝓤 H) (known : Triple 𝓤 (𝓣 .C #abif-file·listing·raw-entry) (One 𝓤 H A mem run)) (room : Room E (length xs)) (small : n ≤ length xs) (there : Present (now s) n) (place-fits : place < 2 ^ 32) (l₀ l₁ l₂ l₃ l₄ l₅ l₆ l₇ l₈ l₉ : ℕ) where
+  module _ (𝓣 : Tables 𝓤 H) (known : Triple 𝓤 (𝓣 .C #abif-file·entry·raw-entry) (One 𝓤 H A mem run)) (room : Room E (length xs)) (small : n ≤ length xs) (there : Present (now s) n) (place-fits : place < 2 ^ 32) (l₀ l₁ l₂ l₃ l₄ l₅ l₆ l₇ l₈ l₉ : ℕ) where
     abbrev C : Calls 𝓤 H
     C = 𝓣 .C
 
@@ -310,7 +310,7 @@ module _ {M : Type 1} (𝓤 : URA M) (H : Heap 𝓤) (A : Atoms 𝓤) (W : Given
         (loop-rule 𝓤 H (W .laws) 𝓣 _<_ (Nat·lt-wfRel .wf) En body.turn-1 Left Inv turns n)
 
   -- the MIR, up to the loop
-  walk : (𝓣 : Tables 𝓤 H) → Triple 𝓤 (𝓣 .C #reading·number·be32) (Head 𝓤 H A mem run) → Triple 𝓤 (𝓣 .C #abif-file·listing·raw-entry) (One 𝓤 H A mem run) → Is (ShrSlice (named 0) κ u8) s (v ∷ []) → Room E (length xs) → n ≤ length xs → Present (now s) n
+  walk : (𝓣 : Tables 𝓤 H) → Triple 𝓤 (𝓣 .C #reading·number·be32) (Head 𝓤 H A mem run) → Triple 𝓤 (𝓣 .C #abif-file·entry·raw-entry) (One 𝓤 H A mem run) → Is (ShrSlice (named 0) κ u8) s (v ∷ []) → Room E (length xs) → n ≤ length xs → Present (now s) n
       → ent 𝓤 (onEntry 𝓤 H A fill.signature (κ, (κ′, tt)) (q, (q′, tt)) a vals) (WpFn 𝓤 H (𝓣 .C) (𝓣 .Λ) code.function (v ∷ w ∷ vint w64 n ∷ []) Post)
   walk 𝓣 known-head known p room small there =
       qed W ((‵ (flft κ q) ⊛ (‵ (flft κ′ q′) ⊛ ‵ ftrue)) ∷ ‵ (owns (ShrSlice (named 0) κ u8 ∷ MutSlice (named 1) κ′ E ∷ usize ∷ []) a vals) ∷ []) ∵ enter ! (𝓣 .C) (𝓣 .Λ) code.function (v ∷ w ∷ vint w64 n ∷ []) _ $
@@ -332,7 +332,7 @@ module _ {M : Type 1} (𝓤 : URA M) (H : Heap 𝓤) (A : Atoms 𝓤) (W : Given
       opens-slice ! tt E xs b o $
       keep ! (0 ∷ 15 ∷ 13 ∷ 11 ∷ 9 ∷ 7 ∷ 23 ∷ 21 ∷ 19 ∷ 17 ∷ 25 ∷ 1 ∷ 2 ∷ 3 ∷ 4 ∷ 5 ∷ 26 ∷ 24 ∷ 22 ∷ 20 ∷ 18 ∷ 16 ∷ 14 ∷ 12 ∷ 10 ∷ 8 ∷ []) $ by ! (loops 𝓣 known room small there (subst (λ (k : ℕ). k < 2 ^ 32) e (is .1)) l₀ l₁ l₂ l₃ l₄ l₅ l₆ l₇ l₈ l₉)))))))))))))))
 
-module _ {M : Type 1} (𝓤 : URA M) (H : Heap 𝓤) (A : Atoms 𝓤) (W : Given 𝓤 H A) (mem : Memory → SProp 𝓤) (run : Routine → Fun 𝓤) (𝓣 : Tables 𝓤 H) (known-head : Triple 𝓤 (𝓣 .C #reading·number·be32) (Head 𝓤 H A mem run)) (known : Triple 𝓤 (𝓣 .C #abif-file·listing·raw-entry) (One 𝓤 H A mem run)) where
+module _ {M : Type 1} (𝓤 : URA M) (H : Heap 𝓤) (A : Atoms 𝓤) (W : Given 𝓤 H A) (mem : Memory → SProp 𝓤) (run : Routine → Fun 𝓤) (𝓣 : Tables 𝓤 H) (known-head : Triple 𝓤 (𝓣 .C #reading·number·be32) (Head 𝓤 H A mem run)) (known : Triple 𝓤 (𝓣 .C #abif-file·entry·raw-entry) (One 𝓤 H A mem run)) where
   fill-walks : Walks 𝓤 H A fill.ended stayed (WpFn 𝓤 H (𝓣 .C) (𝓣 .Λ) code.function) (fill.clauses 𝓤 H A mem run)
   fill-walks = walked 𝓤 H A fill.ended stayed (fill.clauses 𝓤 H A mem run) (WpFn 𝓤 H (𝓣 .C) (𝓣 .Λ) code.function)
       (λ κs. (slice-vals, (slice-vals, (uint-vals w64, tt)))) (λ κs. (shr-slice-tells (named 0) (κs .0) u8, (mut-slice-tells (named 1) (κs .1 .0) E, (uint-tells w64, tt))))
@@ -351,4 +351,4 @@ fill-spec 𝓤 H 𝓜 𝓖 𝓡 =
     (tables 𝓤 H 𝓜 𝓡 code.env .C) (tables 𝓤 H 𝓜 𝓡 code.env .Λ) #abif-file·list·fill code.function (code.unfolded 𝓤 H 𝓜 𝓡)
     (fill-meets 𝓤 H (𝓖 .A) (givenOf 𝓤 H 𝓜 𝓖) (𝓜 .mem) (𝓡 .run) (tablesOf 𝓤 H 𝓜 (tables 𝓤 H 𝓜 𝓡 code.env))
     (cited 𝓤 H (Head 𝓤 H (𝓖 .A) (𝓜 .mem) (𝓡 .run)) 𝓜 𝓡 code.env #reading·number·be32 head-def.routine code.calls-reading·number·be32 (head-thm.met 𝓤 H 𝓜 𝓖 𝓡))
-    (cited 𝓤 H (One 𝓤 H (𝓖 .A) (𝓜 .mem) (𝓡 .run)) 𝓜 𝓡 code.env #abif-file·listing·raw-entry one-def.routine code.calls-abif-file·listing·raw-entry (one-thm.met 𝓤 H 𝓜 𝓖 𝓡)))
+    (cited 𝓤 H (One 𝓤 H (𝓖 .A) (𝓜 .mem) (𝓡 .run)) 𝓜 𝓡 code.env #abif-file·entry·raw-entry one-def.routine code.calls-abif-file·entry·raw-entry (one-thm.met 𝓤 H 𝓜 𝓖 𝓡)))

@@ -40,7 +40,7 @@ use denote.Signature.{plain}
 use Rattle.reading.specs.Number.{be}
 use Rattle.reading.specs.Check.{answer, mapAnswer}
 use Rattle.reading.specs.Lent.{filled}
-use Rattle.abif_file.specs.declared.listing.RawEntry.{RawEntry}
+use Rattle.abif_file.specs.declared.entry.RawEntry.{RawEntry}
 use Rattle.abif.specs.declared.numbers.Copied.{Copied}
 use Rattle.abif.specs.Numbers.{copied}
 use Rattle.abif.proofs.numbers.Copied as S

@@ -2,7 +2,7 @@ use mathlib.Core.Path.{_∙_, ap}
 use mathlib.Core.List.{List}
 use lib.ListN.{length}
 use Rattle.reading.specs.Check.{Answer, mapAnswer}
-use Rattle.abif_file.specs.declared.listing.RawEntry.{RawEntry}
+use Rattle.abif_file.specs.declared.entry.RawEntry.{RawEntry}
 use Rattle.abif_file.specs.List.{listing}
 use Rattle.abif_file.proofs.opened.Laws.{later-refused, later-same}
 use borrow.Author.Needs.{needs}

@@ -9,7 +9,7 @@ ghost use mathlib.Core.Path.{_≡_};
 ghost use Prim.Native.Nat.{_+_, _*_, _≤_};
 ghost use lib.ListN.{length};
 ghost use Rattle.reading.specs.Check.{answer};
-ghost use Rattle.abif_file.specs.Listing.{rawEntry, entryReading, listed};
+ghost use Rattle.abif_file.specs.Entry.{rawEntry, entryReading, entryFound};
 
 // A directory entry as it stands in the file, signed where the format is; C programs lend lists of these.
 #[repr(C)]
@@ -25,7 +25,7 @@ pub struct RawEntry {
 }
 
 // An entry of the directory, or the refusal.
-pub enum Listed {
+pub enum EntryFound {
     At(RawEntry),
     Refused(u8),
 }
@@ -51,21 +51,21 @@ pub(crate) fn raw_entry(h: &[u8], place: u32, i: usize) -> RawEntry
 }
 
 // Entry number `index`, from one, of the directory.
-pub fn entry(s: &[u8], index: u64) -> Listed
-    ensures { λ r. ⌜ listed r ≡ answer (entryReading index) (now (s .entry)) ⌝ }
+pub fn entry(s: &[u8], index: u64) -> EntryFound
+    ensures { λ r. ⌜ entryFound r ≡ answer (entryReading index) (now (s .entry)) ⌝ }
 {
     match open(s) {
-        Opened::Refused(n) => Listed::Refused(n),
+        Opened::Refused(n) => EntryFound::Refused(n),
         Opened::At { place, count } => {
             if index < 1 {
-                return Listed::Refused(7);
+                return EntryFound::Refused(7);
             }
             if (count as u64) < index {
-                return Listed::Refused(7);
+                return EntryFound::Refused(7);
             }
             let end = place as usize + 28 * count as usize;
             let i = (index - 1) as usize;
-            Listed::At(raw_entry(&s[..end], place, i))
+            EntryFound::At(raw_entry(&s[..end], place, i))
         }
     }
 }

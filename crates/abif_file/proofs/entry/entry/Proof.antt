@@ -4,11 +4,11 @@ use lib.ListN.{length-take}
 use borrow.Author.Needs.{needs}
 use Rattle.reading.specs.Check.{ok}
 use Rattle.abif.specs.Directory.{opened}
-use Rattle.abif_file.specs.Listing.{entryReading}
+use Rattle.abif_file.specs.Entry.{entryReading}
 use Rattle.abif.proofs.directory.Laws.{opened-at, after-refused}
-use Rattle.abif_file.proofs.listing.Laws.{entry-before, entry-past, entry-there}
-use Rattle.abif_file.proofs.listing.entry.Statement.{statement}
-use Rattle.abif_file.proofs.listing.entry.Tie as tie
+use Rattle.abif_file.proofs.entry.Laws.{entry-before, entry-past, entry-there}
+use Rattle.abif_file.proofs.entry.entry.Statement.{statement}
+use Rattle.abif_file.proofs.entry.entry.Tie as tie
 
 open-requires : tie.Need-open-requires
 open-requires c κs = search needs

@@ -5,9 +5,9 @@ use mathlib.Core.List.{List}
 use Rattle.reading.specs.Choice.{isNumberOf}
 use Rattle.reading.specs.Number.{be, signed}
 use Rattle.reading.specs.Check.{Check, Answer, ok, refused, done, provided, _>>=_, _>>_}
-use Rattle.abif_file.specs.declared.listing.RawEntry.{RawEntry}
-use Rattle.abif_file.specs.declared.listing.Listed.{Listed}
-use Rattle.abif_file.specs.declared.listing.Listed.the-variants.{At, Refused}
+use Rattle.abif_file.specs.declared.entry.RawEntry.{RawEntry}
+use Rattle.abif_file.specs.declared.entry.EntryFound.{EntryFound}
+use Rattle.abif_file.specs.declared.entry.EntryFound.the-variants.{At, Refused}
 use Rattle.abif.specs.Directory.{directory}
 
 -- the fields of the entry at place p, signed where the format is
@@ -32,6 +32,6 @@ entryReading i = do
   done (rawEntry (d .upTo) (d .place + 28 * (i - 1)))
 
 -- the answer of document 01 that each case stands for
-abbrev pub listed : Listed → Answer RawEntry
-listed (At d) = ok d
-listed (Refused n) = refused n 0
+abbrev pub entryFound : EntryFound → Answer RawEntry
+entryFound (At d) = ok d
+entryFound (Refused n) = refused n 0

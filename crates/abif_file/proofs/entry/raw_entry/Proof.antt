@@ -3,11 +3,11 @@ use mathlib.Core.Path.{_∙_}
 use native.Mathlib.Omega.{arith}
 use mir.Syntax.{w16, w32}
 use Rattle.reading.proofs.Signs.{field-is}
-use Rattle.abif_file.specs.Listing.{rawEntry}
-use Rattle.abif_file.proofs.listing.Laws.{raw-part}
+use Rattle.abif_file.specs.Entry.{rawEntry}
+use Rattle.abif_file.proofs.entry.Laws.{raw-part}
 use borrow.Author.Needs.{needs}
-use Rattle.abif_file.proofs.listing.raw_entry.Statement.{statement}
-use Rattle.abif_file.proofs.listing.raw_entry.Tie as tie
+use Rattle.abif_file.proofs.entry.raw_entry.Statement.{statement}
+use Rattle.abif_file.proofs.entry.raw_entry.Tie as tie
 
 mul-p : tie.Need-mul-p
 mul-p c = search needs

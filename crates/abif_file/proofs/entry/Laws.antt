@@ -11,7 +11,7 @@ use borrow.Author.Tests.{le-leb, lt-leb}
 use Rattle.reading.specs.Check.{ok, refused, answer, holds}
 use Rattle.reading.proofs.Steps.{answer-bind, answer-must, answer-done}
 use Rattle.abif.specs.Directory.{opening}
-use Rattle.abif_file.specs.Listing.{rawEntry, entryReading}
+use Rattle.abif_file.specs.Entry.{rawEntry, entryReading}
 use Rattle.abif.proofs.directory.Laws.{opened-at}
 
 module _ (s : List ℕ) (i : ℕ) where
