@@ -28,13 +28,21 @@ module _ (w p n q : ℕ) (s : List ℕ) (h : q + w ≤ n) where
   unfolding le
   le-in-part = number-same w _ _ (λ i l. in-part i l)
 
--- also where it fills the part
-module _ (w p : ℕ) (s : List ℕ) where
-  pub be-part : be w (take w (drop p s)) 0 ≡ be w s p
-  be-part = be-in-part w p w 0 s (omega arith) ∙ ap (be w s) (omega arith)
+-- also at the front of a part, whose size the code computes as k
+module _ (w p k : ℕ) (s : List ℕ) (h : w ≤ k) where
+  pub be-front : be w (take k (drop p s)) 0 ≡ be w s p
+  be-front = be-in-part w p k 0 s (omega arith) ∙ ap (be w s) (omega arith)
 
-  pub le-part : le w (take w (drop p s)) 0 ≡ le w s p
-  le-part = le-in-part w p w 0 s (omega arith) ∙ ap (le w s) (omega arith)
+  pub le-front : le w (take k (drop p s)) 0 ≡ le w s p
+  le-front = le-in-part w p k 0 s (omega arith) ∙ ap (le w s) (omega arith)
+
+-- so where it fills the part
+module _ (w p : ℕ) (s : List ℕ) where
+  pub be-part : be w (take (p + w - p) (drop p s)) 0 ≡ be w s p
+  be-part = be-front w p (p + w - p) s (omega arith)
+
+  pub le-part : le w (take (p + w - p) (drop p s)) 0 ≡ le w s p
+  le-part = le-front w p (p + w - p) s (omega arith)
 
 -- and where the part is a beginning
 module _ (w n p : ℕ) (s : List ℕ) (h : p + w ≤ n) where

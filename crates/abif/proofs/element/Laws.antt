@@ -8,7 +8,7 @@ use lib.IntN.{pos}
 use lib.ListN.{length, take, drop}
 use lib.Dec.{eqb}
 use lib.Ieee.{binary32, binary64, ofBits}
-use native.Mathlib.Nat.{add-sub-cancel-left, mul-suc, mul-le-mul-left}
+use native.Mathlib.Nat.{mul-suc, mul-le-mul-left}
 use native.Mathlib.Omega.{arith}
 use borrow.Author.Tests.{ne-eqb}
 use Rattle.reading.specs.Choice.{isNumberOf}
@@ -22,14 +22,12 @@ use Rattle.abif.specs.declared.lookup.ItemData.{ItemData}
 use Rattle.abif.specs.Entry.{typeOf}
 use Rattle.abif.specs.Element.{single, double, thumb, bool, whole, wholeAt, dateAt, timeAt, valueAt, isListed, elementOf}
 
--- a number read from a part that it fills
-pub read-part : (w p : ℕ) (l : List ℕ) (r : ℕ) → r ≡ be w (take (p + w - p) (drop p l)) 0 → r ≡ be w l p
-read-part w p l r e = e ∙ rw add-sub-cancel-left (be-part w p l)
-
+-- a number of two bytes, read one by one from the part that it fills
 pub read-pair : (p : ℕ) (l : List ℕ) (a b : ℕ) → a ≡ be 1 (take (p + 2 - p) (drop p l)) 0 → b ≡ be 1 (take (p + 2 - p) (drop p l)) 1 → 256 * a + b ≡ be 2 l p
 read-pair p l a b e f =
     let s = be-split 1 1 (take (p + 2 - p) (drop p l)) 0 in
-    read-part 2 p l (256 * a + b) (omega arith)
+    let e : 256 * a + b ≡ be 2 (take (p + 2 - p) (drop p l)) 0 = omega arith in
+    e ∙ be-part 2 p l
 
 -- the place of an element is a machine's number
 pub place-below : {s w i : ℕ} → s < 0x100000000 → w < 2 ^ 16 → i < 2 ^ 32 → s + w * i < 0x2000000000000

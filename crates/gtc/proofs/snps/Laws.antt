@@ -5,8 +5,7 @@ use mathlib.Core.Path.{_≡_, refl, sym, _∙_, ap}
 use mathlib.Core.Bool.{true}
 use mathlib.Core.List.{List, [], _∷_, _++_}
 use native.Mathlib.Omega.{arith}
-use native.Mathlib.Nat.{add-sub-cancel-left}
-use lib.ListN.{length, take, drop, length-take, length-drop}
+use lib.ListN.{length, drop, length-take, length-drop}
 use lib.Seq.{sets}
 use borrow.Author.Tests.{le-leb, leb-true}
 use Rattle.reading.specs.Number.{le}
@@ -16,7 +15,6 @@ use Rattle.reading.specs.Lent.{filled}
 use Rattle.reading.proofs.Steps.{after, answer-bind, answer-must, answer-done}
 use Rattle.reading.proofs.Passed.{bind-ok, done-ok, must-ok, not-ok}
 use Rattle.reading.proofs.Tests.{span}
-use Rattle.reading.proofs.Width.{le-part}
 use Rattle.gtc.specs.declared.item.ItemData.{ItemData}
 use Rattle.gtc.specs.declared.snp.SnpArrays.{SnpArrays}
 use Rattle.gtc.specs.declared.snp.Snp.{Snp}
@@ -30,10 +28,6 @@ use Rattle.gtc.proofs.snp.Laws.{bytesIn, bytes-present, looked}
 -- the bytes of the five arrays
 abbrev pub bytes : List ℕ → List ℕ → List ℕ → List ℕ → List ℕ → SnpBytes
 bytes g b f x y = record { genotypes = g; baseCalls = b; scores = f; x = x; y = y }
-
--- a number read from a part that it fills
-pub read-part : (w p : ℕ) (l : List ℕ) (r : ℕ) → r ≡ le w (take (p + w - p) (drop p l)) 0 → r ≡ le w l p
-read-part w p l r e = e ∙ rw add-sub-cancel-left (le-part w p l)
 
 -- whether there is a value
 module _ {A : Type 0} where

@@ -7,8 +7,9 @@ use mir.Facts.{toZ-pos}
 use borrow.Author.Needs.{needs}
 use Rattle.reading.specs.Number.{signed}
 use Rattle.reading.proofs.Signs.{widened-fits, widened}
+use Rattle.reading.proofs.Width.{be-part}
 use Rattle.abif.specs.Entry.{typeOf}
-use Rattle.abif.proofs.element.Laws.{read-part, read-pair, whole-one, whole-char, whole-word, whole-short, whole-long, whole-byte}
+use Rattle.abif.proofs.element.Laws.{read-pair, whole-one, whole-char, whole-word, whole-short, whole-long, whole-byte}
 use Rattle.abif.proofs.element.whole_at.Statement.{statement}
 use Rattle.abif.proofs.element.whole_at.Tie as tie
 
@@ -126,19 +127,19 @@ returns : tie.Need-returns
 returns c =
     let m = c .before .before in
     let g = m .before .before .args in
-    toZ-pos w64 (omega arith) ∙ ap pos (read-part 1 (g .p) (g .l .now) _ (c .byte .ensures)) ∙ whole-one (g .l .now) (g .p) (g .code) (m .match .keys1)
+    toZ-pos w64 (omega arith) ∙ ap pos (c .byte .ensures ∙ be-part 1 (g .p) (g .l .now)) ∙ whole-one (g .l .now) (g .p) (g .code) (m .match .keys1)
 
 returns-2 : tie.Need-returns-2
 returns-2 c =
     let m = c .before .before .before in
     let g = m .before .before .args in
-    widened w8 w64 _ tt (search needs) ∙ c .signed8 .ensures ∙ ap (signed 1) (read-part 1 (g .p) (g .l .now) _ (c .before .byte2 .ensures)) ∙ whole-char (g .l .now) (g .p) (g .code) (m .match .keys2)
+    widened w8 w64 _ tt (search needs) ∙ c .signed8 .ensures ∙ ap (signed 1) (c .before .byte2 .ensures ∙ be-part 1 (g .p) (g .l .now)) ∙ whole-char (g .l .now) (g .p) (g .code) (m .match .keys2)
 
 returns-3 : tie.Need-returns-3
 returns-3 c =
     let m = c .before .before in
     let g = m .before .before .args in
-    toZ-pos w64 (omega arith) ∙ ap pos (read-part 2 (g .p) (g .l .now) _ (c .be16 .ensures)) ∙ whole-word (g .l .now) (g .p) (g .code) (m .match .keys3)
+    toZ-pos w64 (omega arith) ∙ ap pos (c .be16 .ensures ∙ be-part 2 (g .p) (g .l .now)) ∙ whole-word (g .l .now) (g .p) (g .code) (m .match .keys3)
 
 returns-4 : tie.Need-returns-4
 returns-4 c =
@@ -151,7 +152,7 @@ returns-5 : tie.Need-returns-5
 returns-5 c =
     let m = c .before .before .before in
     let g = m .before .before .args in
-    widened w32 w64 _ tt (search needs) ∙ c .signed32 .ensures ∙ ap (signed 4) (read-part 4 (g .p) (g .l .now) _ (c .before .be32 .ensures)) ∙ whole-long (g .l .now) (g .p) (g .code) (m .match .keys5)
+    widened w32 w64 _ tt (search needs) ∙ c .signed32 .ensures ∙ ap (signed 4) (c .before .be32 .ensures ∙ be-part 4 (g .p) (g .l .now)) ∙ whole-long (g .l .now) (g .p) (g .code) (m .match .keys5)
 
 returns-6 : tie.Need-returns-6
 returns-6 c =

@@ -1,10 +1,6 @@
-use Prim.Native.Nat.{_+_, _-_}
-use mathlib.Core.Path.{_∙_, ap}
-use native.Mathlib.Nat.{add-zero}
-use native.Mathlib.Omega.{arith}
+use mathlib.Core.Path.{_∙_}
 use borrow.Author.Needs.{needs}
-use Rattle.reading.specs.Number.{le}
-use Rattle.reading.proofs.Width.{le-in-part}
+use Rattle.reading.proofs.Width.{le-part}
 use Rattle.gtc.specs.Entry.{entryPlace, hasId}
 use Rattle.gtc.proofs.entry.has_id.Statement.{statement}
 use Rattle.gtc.proofs.entry.has_id.Tie as tie
@@ -34,8 +30,7 @@ returns : tie.Need-returns
 unfolding hasId
 returns c =
     let g = c .before .before .before .args in
-    let p = entryPlace (g .i) in
-    let x = c .le16 .ensures ∙ le-in-part 2 p (p + 2 - p) 0 (g .h .now) (omega arith) ∙ ap (le 2 (g .h .now)) (add-zero p) in
+    let x = c .le16 .ensures ∙ le-part 2 (entryPlace (g .i)) (g .h .now) in
     rw (← x)
 
 pub has-id-spec : {M : Type 1} → statement M

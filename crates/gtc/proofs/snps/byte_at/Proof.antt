@@ -2,8 +2,7 @@ use borrow.Author.Needs.{needs}
 use Rattle.gtc.proofs.snps.byte_at.Statement.{statement}
 use Rattle.gtc.proofs.snps.byte_at.Tie as tie
 use mathlib.Core.Path.{_∙_}
-use Rattle.reading.proofs.Width.{byte-le}
-use Rattle.gtc.proofs.snps.Laws.{read-part}
+use Rattle.reading.proofs.Width.{byte-le, le-part}
 
 add-end : tie.Need-add-end
 add-end c = search needs
@@ -21,7 +20,7 @@ byte-requires : tie.Need-byte-requires
 byte-requires c κs = search needs
 
 returns : tie.Need-returns
-returns c = let g = c .before .before .before .args in read-part 1 (g .p) (g .l .now) _ (c .byte .ensures ∙ byte-le _ _)
+returns c = let g = c .before .before .before .args in c .byte .ensures ∙ byte-le _ _ ∙ le-part 1 (g .p) (g .l .now)
 
 pub byte-at-spec : {M : Type 1} → statement M
 byte-at-spec =

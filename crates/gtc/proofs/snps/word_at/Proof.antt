@@ -1,7 +1,8 @@
+use mathlib.Core.Path.{_∙_}
 use borrow.Author.Needs.{needs}
+use Rattle.reading.proofs.Width.{le-part}
 use Rattle.gtc.proofs.snps.word_at.Statement.{statement}
 use Rattle.gtc.proofs.snps.word_at.Tie as tie
-use Rattle.gtc.proofs.snps.Laws.{read-part}
 
 add-end : tie.Need-add-end
 add-end c = search needs
@@ -19,7 +20,7 @@ le16-requires : tie.Need-le16-requires
 le16-requires c κs = search needs
 
 returns : tie.Need-returns
-returns c = let g = c .before .before .before .args in read-part 2 (g .p) (g .l .now) _ (c .le16 .ensures)
+returns c = let g = c .before .before .before .args in c .le16 .ensures ∙ le-part 2 (g .p) (g .l .now)
 
 pub word-at-spec : {M : Type 1} → statement M
 word-at-spec =
