@@ -30,7 +30,7 @@ pub enum EntryFound {
     Refused(u8),
 }
 
-// Entry i, from nought, of a directory at this place. A part of a fixed length is read with no test of its length, so a loop over this is fast.
+// Entry i, counted from 0, of a directory at this place. A part of a fixed length is read with no test of its length, so a loop over this is fast.
 pub(crate) fn raw_entry(h: &[u8], place: u32, i: usize) -> RawEntry
     requires { ⌜ place + 28 * i + 28 ≤ length (now h) ⌝ }
     ensures { λ r. ⌜ r ≡ rawEntry (now (h .entry)) (place + 28 * i) ⌝ }

@@ -6,7 +6,7 @@ use mathlib.Core.List.{List}
 use native.Mathlib.Omega.{arith}
 use lib.ListN.{length, take, drop, length-take, length-drop}
 
--- f l p is what stands at place p of l: the same n from place p of l on as from place q of m on
+-- the n things from place p of l on are those from place q of m on, where f l p is what stands at place p of l
 abbrev pub Same : {X : Type 0} → (List ℕ → ℕ → X) → List ℕ → ℕ → List ℕ → ℕ → ℕ → Type 0
 Same f l p m q n = (i : ℕ) → i < n → f l (p + i) ≡ f m (q + i)
 
@@ -17,7 +17,7 @@ module _ {X : Type 0} (f : List ℕ → ℕ → X) (l m : List ℕ) (p q n : ℕ
   pub same-rest : Same f l (p + 1) m (q + 1) n
   same-rest i k = ap (f l) (omega arith) ∙ h (suc i) (omega arith) ∙ ap (f m) (omega arith)
 
--- G l p n is said of the n from place p of l on: z of none, and a step for each
+-- G l p n is said of the n things from place p of l on: z of none, and a step for each
 module _ {X Y : Type 0} (f : List ℕ → ℕ → X) (z : Y) (step : X → Y → Y) (G : List ℕ → ℕ → ℕ → Y) (none : (l : List ℕ) (p : ℕ) → G l p 0 ≡ z) (one : (l : List ℕ) (p n : ℕ) → G l p (suc n) ≡ step (f l p) (G l (p + 1) n)) where
   pub fold-same : (l m : List ℕ) (p q n : ℕ) → Same f l p m q n → G l p n ≡ G m q n
   fold-same l m p q zero h = none l p ∙ sym (none m q)
