@@ -3,6 +3,7 @@
 use super::draft::Draft;
 use super::generate::{all_codes, element_size, listed_data, plain_file, Content, Order};
 use super::reader::{Tag, Type};
+use super::run;
 use crate::random::Random;
 use crate::samples::{cut, Sample};
 
@@ -46,7 +47,18 @@ pub fn all() -> Vec<Sample> {
     let mut samples = whole_samples();
     samples.extend(refused_in_the_header());
     samples.extend(refused_at_an_entry());
+    samples.extend(a_run());
     samples
+}
+
+// A whole run, and the same cut in the middle of its last channel.
+fn a_run() -> [Sample; 2] {
+    let whole = run::run().bytes();
+    let shorter = whole.len() - run::channel_length() / 2;
+    [
+        ("run.ab1", whole.clone()),
+        ("cut-run.ab1", cut(whole, shorter)),
+    ]
 }
 
 fn whole_samples() -> Vec<Sample> {

@@ -10,6 +10,7 @@ mod normalising;
 mod published;
 mod questions;
 pub mod reader;
+mod run;
 pub mod samples;
 mod whole;
 

@@ -4,6 +4,7 @@ use super::draft::{Draft, NUMBER_OF_SNPS, SCANNER, TRANSFORMATIONS};
 use super::generate::{
     array, plain_file, scanner, snp_items, snp_of_code, text, transformation, Content, Snp,
 };
+use super::run;
 use crate::samples::{cut, Sample};
 
 /// W9: no entries.
@@ -54,7 +55,18 @@ pub fn all() -> Vec<Sample> {
     let mut samples = whole_samples();
     samples.extend(refused_at_the_table());
     samples.extend(refused_at_an_entry());
+    samples.extend(a_run());
     samples
+}
+
+// A whole sample, and the same cut in the middle of its scores.
+fn a_run() -> [Sample; 2] {
+    let whole = run::run().bytes();
+    let shorter = whole.len() - run::scores_length() / 2;
+    [
+        ("run.gtc", whole.clone()),
+        ("cut-run.gtc", cut(whole, shorter)),
+    ]
 }
 
 fn whole_samples() -> Vec<Sample> {

@@ -8,6 +8,7 @@ pub mod library;
 mod published;
 mod questions;
 pub mod reader;
+mod run;
 pub mod samples;
 mod whole;
 pub mod writer;

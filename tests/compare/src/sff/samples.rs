@@ -1,6 +1,7 @@
 //! The stored SFF files.
 
 use super::draft::{Draft, Index, Read};
+use super::run;
 use crate::samples::{cut, Sample};
 
 /// W7: a header for four flows with a key of four letters.
@@ -34,7 +35,20 @@ pub fn all() -> Vec<Sample> {
     let mut samples = whole_samples();
     samples.extend(refused_at_no_read());
     samples.extend(refused_at_a_read());
+    samples.extend(a_run());
     samples
+}
+
+// A whole run, and the same cut in the middle of its third read.
+fn a_run() -> [Sample; 2] {
+    let draft = run::run();
+    let whole = draft.bytes();
+    let third = draft.layout().reads[2]..draft.layout().index.unwrap_or(whole.len());
+    let shorter = third.start + third.len() / 2;
+    [
+        ("run.sff", whole.clone()),
+        ("cut-run.sff", cut(whole, shorter)),
+    ]
 }
 
 fn whole_samples() -> Vec<Sample> {
