@@ -1,0 +1,128 @@
+#include "chart.h"
+
+#include "memory.h"
+#include "scale.h"
+
+#include <stdlib.h>
+#include <string.h>
+
+static void spell(struct spelled *spelled, int tenths, char behind) {
+    int length = tenths % 10 == 0
+                     ? snprintf(spelled->text, sizeof spelled->text, "%d%c", tenths / 10, behind)
+                     : snprintf(spelled->text, sizeof spelled->text, "%d.%d%c", tenths / 10, tenths % 10, behind);
+    spelled->length = (uint8_t)length;
+}
+
+static void spell_coordinates(struct chart *chart) {
+    for (int i = 0; i <= POINTS; i++) {
+        spell(&chart->x[i], 10 * POINT_WIDTH * i, ',');
+    }
+    for (int i = 0; i <= 10 * PLOT_HEIGHT; i++) {
+        spell(&chart->y[i], i, ' ');
+    }
+}
+
+static void choose_scale(struct chart *chart) {
+    const struct item_numbers *channels = chart->run->channels;
+    struct census *census = take(1, sizeof *census);
+    for (int i = 0; i < CHANNELS; i++) {
+        census_range(census, channels[i].values, channels[i].count);
+    }
+    for (int i = 0; i < CHANNELS; i++) {
+        census_count(census, channels[i].values, channels[i].count);
+    }
+    chart->top = census_top(census);
+    chart->bottom = census_bottom(census, chart->top);
+    chart->tenths = 10.0 * PLOT_HEIGHT / (double)(chart->top - chart->bottom);
+    chart->off_scale = census->highest > chart->top || census->lowest < chart->bottom;
+    free(census);
+}
+
+static uint64_t row_of(const struct chart *chart, uint64_t place) {
+    uint64_t row = place / POINTS;
+    return row < chart->rows ? row : chart->rows - 1;
+}
+
+/* From the last letter to the first, so that each row's stand in order. */
+static void sort_letters(struct chart *chart) {
+    const struct run *run = chart->run;
+    for (uint64_t base = run->letters.count; base > 0; base--) {
+        if (letter_is_shown(run, base - 1)) {
+            uint64_t row = row_of(chart, (uint64_t)run->places.values[base - 1]);
+            chart->next_letter[base - 1] = chart->first_letter[row];
+            chart->first_letter[row] = base;
+        } else {
+            chart->hidden++;
+        }
+    }
+}
+
+void chart_prepare(struct chart *chart) {
+    const struct run *run = chart->run;
+    chart->length = run_length(run);
+    chart->rows = chart->length <= 1 ? 1 : (chart->length - 2) / POINTS + 1;
+    chart->lettered = run->placed && run->bases[0] != 0;
+    chart->first_letter = take(chart->rows, sizeof *chart->first_letter);
+    chart->next_letter = take(run->letters.count, sizeof *chart->next_letter);
+    choose_scale(chart);
+    spell_coordinates(chart);
+    if (chart->lettered) {
+        sort_letters(chart);
+    }
+}
+
+void chart_free(struct chart *chart) {
+    free(chart->first_letter);
+    free(chart->next_letter);
+    free(chart);
+}
+
+int refused_channels(const struct run *run) {
+    int refused = 0;
+    for (int i = 0; i < CHANNELS; i++) {
+        refused += run->channels[i].refusal != 0;
+    }
+    return refused;
+}
+
+int row_height_above(const struct chart *chart) {
+    enum { WITHOUT_LETTERS = 8 };
+    if (chart->length == 0) {
+        return 0;
+    }
+    if (!chart->lettered) {
+        return WITHOUT_LETTERS;
+    }
+    return chart->run->qualified ? QUALITY_HEIGHT + LETTERS_HEIGHT : LETTERS_HEIGHT;
+}
+
+int row_height(const struct chart *chart) {
+    enum { GAP = 22 };
+    int plot = chart->length > 0 ? PLOT_HEIGHT + AXIS_HEIGHT : 0;
+    return row_height_above(chart) + plot + refused_channels(chart->run) * LANE_HEIGHT + GAP;
+}
+
+const char *channel_colour(const struct run *run, int channel) {
+    static const char *const colours[CHANNELS] = {"#333", "#7b3294", "#c2702e", "#5fb3dd"};
+    return run->bases[channel] != 0 ? letter_colour(run->bases[channel]) : colours[channel];
+}
+
+const char *channel_dashes(const struct run *run, int channel) {
+    static const char *const dashes[CHANNELS] = {"none", "6 2", "2 2", "8 2 2 2"};
+    static const char bases[] = "AGTC";
+    char base = run->bases[channel];
+    return dashes[base != 0 ? strchr(bases, base) - bases : channel];
+}
+
+void draw_refused_channel(struct chart *chart, int channel, struct box box) {
+    const struct item_numbers *numbers = &chart->run->channels[channel];
+    char base = chart->run->bases[channel];
+    char label[32];
+    snprintf(label, sizeof label, base != 0 ? "%s, base %c" : "%s", numbers->tag, base);
+    draw_refused(chart->picture, (struct refused){numbers->tag, label, 0, numbers->refusal}, box);
+}
+
+int64_t chart_tenths(const struct chart *chart, int64_t value) {
+    double tenths = (double)(chart->top - value) * chart->tenths;
+    return (int64_t)(tenths < 0 ? tenths - 0.5 : tenths + 0.5);
+}

@@ -1,0 +1,21 @@
+/* The pictures. */
+#ifndef VIEWER_DRAW_H
+#define VIEWER_DRAW_H
+
+#include "picture.h"
+
+struct draw_options {
+    const char *output;
+    bool raw;      /* ABIF: the raw channels */
+    uint64_t read; /* SFF: which read, from one */
+};
+
+/* Each draws the whole picture and tells whether all that it is made of was answered. */
+bool draw_abif(struct picture *picture, bool raw);
+bool draw_sff(struct picture *picture, uint64_t k);
+bool draw_gtc(struct picture *picture);
+
+/* Draws the file into the output, and prints the file's line. */
+enum status draw_file(const struct file *file, const struct draw_options *options);
+
+#endif

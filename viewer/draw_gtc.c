@@ -1,0 +1,315 @@
+#include "draw.h"
+
+#include "memory.h"
+#include "numbers.h"
+#include "scale.h"
+#include "words.h"
+
+#include <inttypes.h>
+#include <stdlib.h>
+#include <string.h>
+
+enum {
+    GENOTYPES = 46,
+    UNREAD = GENOTYPES, /* the class of SNPs whose genotypes cannot be read */
+    CLASSES,
+    PLOT_SIZE = 760,
+    PART_HEIGHT = 26,
+    PARTS = 5,
+    LEGEND_LEFT = PLOT_LEFT + PLOT_SIZE + 40,
+    NO_SUCH_ELEMENT = 12,
+    FORBIDDEN_VALUE = 11
+};
+
+enum { GENOTYPE_ID = 1002, CALL_ID = 1003, SCORE_ID = 1004, X_ID = 1000, Y_ID = 1001 };
+
+struct snp {
+    uint16_t x, y;
+    uint8_t class;
+};
+
+/* A GTC file's picture: the SNPs that are there, and how many of each class. */
+struct scatter {
+    struct picture *picture;
+    jt_item parts[PARTS];
+    uint64_t refusal; /* of the SNPs' records */
+    uint64_t forbidden;
+    uint64_t count;
+    struct snp *snps;
+    uint64_t in_class[CLASSES];
+    uint8_t ploidy[CLASSES];
+    uint8_t b_alleles[CLASSES];
+    int64_t top;
+    uint8_t *taken; /* for each pixel, whether the class at hand has a mark there */
+};
+
+static const uint16_t IDS[PARTS] = {GENOTYPE_ID, CALL_ID, SCORE_ID, X_ID, Y_ID};
+
+static void add_snp(struct scatter *scatter, uint64_t class, uint64_t x, uint64_t y) {
+    struct snp snp = {(uint16_t)x, (uint16_t)y, (uint8_t) class};
+    scatter->snps[scatter->count++] = snp;
+    scatter->in_class[class]++;
+}
+
+static void add_record(struct scatter *scatter, const jt_snp *record) {
+    scatter->ploidy[record->code] = (uint8_t)record->ploidy;
+    scatter->b_alleles[record->code] = (uint8_t)record->b_alleles;
+    add_snp(scatter, record->code, record->x, record->y);
+}
+
+/* All records at once; where the bulk call refuses one of them, one by one. */
+static void read_records(struct scatter *scatter, uint64_t count) {
+    const struct file *file = scatter->picture->file;
+    uint64_t *numbers = take(JT_SNP_NUMBERS * count, sizeof *numbers);
+    jt_listed listed = jt_gtc_snps(file->bytes, file->length, 1, numbers, JT_SNP_NUMBERS * count);
+    for (uint64_t i = 0; i < count; i++) {
+        jt_snp record = {.refusal = listed.refusal};
+        if (listed.refusal == 0) {
+            memcpy(&record.code, numbers + JT_SNP_NUMBERS * i, JT_SNP_NUMBERS * sizeof *numbers);
+        } else {
+            record = jt_gtc_snp(file->bytes, file->length, i + 1);
+        }
+        if (record.refusal == 0) {
+            add_record(scatter, &record);
+        } else {
+            scatter->forbidden++;
+        }
+    }
+    free(numbers);
+}
+
+/* Without records, the intensities alone, if both are there. */
+static void read_intensities(struct scatter *scatter) {
+    const struct file *file = scatter->picture->file;
+    const jt_item *x = &scatter->parts[3];
+    const jt_item *y = &scatter->parts[4];
+    if (x->refusal != 0 || y->refusal != 0) {
+        return;
+    }
+    for (uint64_t i = 0; i < x->count && i < y->count; i++) {
+        add_snp(scatter, UNREAD, little_endian_16(file, x->start + 2 * i), little_endian_16(file, y->start + 2 * i));
+    }
+}
+
+static void read_snps(struct scatter *scatter) {
+    const struct file *file = scatter->picture->file;
+    for (int i = 0; i < PARTS; i++) {
+        scatter->parts[i] = jt_gtc_lookup(file->bytes, file->length, IDS[i]);
+    }
+    uint64_t count = scatter->parts[3].count;
+    scatter->snps = take(count, sizeof *scatter->snps);
+    scatter->refusal = jt_gtc_snp(file->bytes, file->length, 1).refusal;
+    if (scatter->refusal == 0 || scatter->refusal == FORBIDDEN_VALUE) {
+        scatter->refusal = 0;
+        read_records(scatter, count);
+    } else if (scatter->refusal != NO_SUCH_ELEMENT) {
+        read_intensities(scatter);
+    }
+}
+
+static void choose_scale(struct scatter *scatter) {
+    int64_t highest = 100;
+    for (uint64_t i = 0; i < scatter->count; i++) {
+        int64_t larger = scatter->snps[i].x > scatter->snps[i].y ? scatter->snps[i].x : scatter->snps[i].y;
+        highest = larger > highest ? larger : highest;
+    }
+    scatter->top = round_above(highest);
+}
+
+static void genotype_name(const struct scatter *scatter, int class, char name[16]) {
+    if (class == 0 || class == 4 || class == UNREAD) {
+        snprintf(name, 16, "%s", class == 0 ? "NC" : class == 4 ? "NULL" : "unread");
+        return;
+    }
+    int b = scatter->b_alleles[class];
+    int a = scatter->ploidy[class] - b;
+    memset(name, 'A', (size_t)a);
+    memset(name + a, 'B', (size_t)b);
+    name[a + b] = '\0';
+}
+
+/* From dark for all A to light for all B, so that they can be told apart in grey too. */
+static const char *genotype_colour(const struct scatter *scatter, int class) {
+    static const char *const shades[] = {"#00224e", "#22409a", "#3d5a8a", "#5f6f80", "#7c7b78",
+                                         "#9a8b6a", "#b99c55", "#d9a441", "#e8b92f"};
+    int ploidy = scatter->ploidy[class];
+    if (ploidy == 0) {
+        return class == UNREAD ? "#555" : "#c8553d";
+    }
+    return shades[8 * scatter->b_alleles[class] / ploidy];
+}
+
+/* A mark around a point: a circle for all A, a square for all B, a triangle between; a cross where there is no call. */
+static const char *genotype_mark(const struct scatter *scatter, int class) {
+    int ploidy = scatter->ploidy[class];
+    if (class == UNREAD) {
+        return "m-1.5 0h3m-1.5-1.5v3";
+    }
+    if (ploidy == 0) {
+        return "m-2.5-2.5l5 5m0-5l-5 5";
+    }
+    if (scatter->b_alleles[class] == 0) {
+        return "m-2.5 0a2.5 2.5 0 1 0 5 0a2.5 2.5 0 1 0-5 0z";
+    }
+    return scatter->b_alleles[class] == ploidy ? "m-2.2-2.2h4.4v4.4h-4.4z" : "m0-3l2.8 5h-5.6z";
+}
+
+/* How a class is painted: its letters filled, the others by lines. */
+static void draw_paint(struct scatter *scatter, int class) {
+    const char *colour = genotype_colour(scatter, class);
+    bool filled = scatter->ploidy[class] != 0;
+    svg_format(&scatter->picture->svg, "fill=\"%s\" stroke=\"%s\" stroke-width=\"%s\"", filled ? colour : "none",
+               filled ? "#fff" : colour, filled ? ".4" : "1.1");
+}
+
+/* One mark for all SNPs of a class that fall on the same pixel. */
+static void draw_marks(struct scatter *scatter, int class) {
+    struct svg *svg = &scatter->picture->svg;
+    const char *mark = genotype_mark(scatter, class);
+    memset(scatter->taken, 0, (size_t)(PLOT_SIZE + 1) * (PLOT_SIZE + 1));
+    for (uint64_t i = 0; i < scatter->count; i++) {
+        const struct snp *snp = &scatter->snps[i];
+        int64_t x = snp->x * (int64_t)PLOT_SIZE / scatter->top;
+        int64_t y = PLOT_SIZE - snp->y * (int64_t)PLOT_SIZE / scatter->top;
+        uint8_t *taken = &scatter->taken[y * (PLOT_SIZE + 1) + x];
+        if (snp->class == class && *taken == 0) {
+            *taken = 1;
+            svg_markup(svg, "M");
+            svg_number(svg, x);
+            svg_markup(svg, " ");
+            svg_number(svg, y);
+            svg_markup(svg, mark);
+        }
+    }
+}
+
+static void draw_class(struct scatter *scatter, int class) {
+    struct svg *svg = &scatter->picture->svg;
+    char name[16];
+    genotype_name(scatter, class, name);
+    svg_format(svg, "<path class=\"snps\" data-genotype=\"%s\" data-count=\"%" PRIu64 "\" ", name,
+               scatter->in_class[class]);
+    draw_paint(scatter, class);
+    svg_markup(svg, " d=\"");
+    draw_marks(scatter, class);
+    svg_markup(svg, "\"/>\n");
+}
+
+static void draw_axes(struct scatter *scatter) {
+    enum { TICKS = 4 };
+    struct svg *svg = &scatter->picture->svg;
+    for (int i = 0; i <= TICKS; i++) {
+        int at = PLOT_SIZE * i / TICKS;
+        svg_format(svg, "<path class=\"grid\" d=\"M0 %dh%dM%d 0v%d\"/>", PLOT_SIZE - at, PLOT_SIZE, at, PLOT_SIZE);
+        svg_format(svg, "<text class=\"small end\" x=\"-6\" y=\"%d\">", PLOT_SIZE - at + 4);
+        svg_grouped(svg, scatter->top * i / TICKS);
+        svg_format(svg, "</text><text class=\"small middle\" x=\"%d\" y=\"%d\">", at, PLOT_SIZE + 16);
+        svg_grouped(svg, scatter->top * i / TICKS);
+        svg_markup(svg, "</text>\n");
+    }
+    svg_format(svg, "<rect class=\"frame\" width=\"%d\" height=\"%d\"/>", PLOT_SIZE, PLOT_SIZE);
+    svg_format(svg, "<text class=\"middle\" x=\"%d\" y=\"%d\">X, raw green intensity</text>", PLOT_SIZE / 2,
+               PLOT_SIZE + 36);
+    svg_format(svg, "<text class=\"middle\" transform=\"translate(-58,%d) rotate(-90)\">Y, raw red intensity</text>\n",
+               PLOT_SIZE / 2);
+}
+
+/* The records that are refused: some for what stands in them, or all. */
+static struct refused refused_snps(const struct scatter *scatter) {
+    uint64_t refusal = scatter->forbidden > 0 ? FORBIDDEN_VALUE : scatter->refusal;
+    return (struct refused){"SNPs", "SNPs", scatter->forbidden, refusal};
+}
+
+static void draw_plot(struct scatter *scatter, int y) {
+    struct svg *svg = &scatter->picture->svg;
+    if (scatter->count == 0) {
+        struct box box = {PLOT_LEFT, y, PLOT_SIZE, PLOT_SIZE};
+        draw_refused(scatter->picture, refused_snps(scatter), box);
+        return;
+    }
+    svg_format(svg, "<g transform=\"translate(%d,%d)\">\n", PLOT_LEFT, y);
+    draw_axes(scatter);
+    for (int class = 0; class < CLASSES; class ++) {
+        if (scatter->in_class[class] > 0) {
+            draw_class(scatter, class);
+        }
+    }
+    draw_file_refused(scatter->picture, PLOT_SIZE - 8, 20);
+    svg_markup(svg, "</g>\n");
+}
+
+static void draw_legend(struct scatter *scatter, int y) {
+    struct svg *svg = &scatter->picture->svg;
+    for (int class = 0; class < CLASSES; class ++) {
+        if (scatter->in_class[class] == 0) {
+            continue;
+        }
+        char name[16];
+        genotype_name(scatter, class, name);
+        svg_format(svg, "<path ");
+        draw_paint(scatter, class);
+        svg_format(svg, " transform=\"translate(%d,%d) scale(2)\" d=\"M0 0%s\"/>", LEGEND_LEFT, y + 10,
+                   genotype_mark(scatter, class));
+        svg_format(svg, "<text x=\"%d\" y=\"%d\"><tspan font-weight=\"bold\">%s</tspan>: ", LEGEND_LEFT + 20, y + 15,
+                   name);
+        svg_grouped(svg, (int64_t)scatter->in_class[class]);
+        svg_markup(svg, " SNPs</text>\n");
+        y += PART_HEIGHT;
+    }
+}
+
+static void draw_part(struct scatter *scatter, int part, struct box box) {
+    struct svg *svg = &scatter->picture->svg;
+    const jt_item *item = &scatter->parts[part];
+    const char *name = gtc_row_of(IDS[part])->name;
+    char id[8];
+    char label[48];
+    snprintf(id, sizeof id, "%u", IDS[part]);
+    if (item->refusal != 0) {
+        snprintf(label, sizeof label, "%s %s", id, name);
+        draw_refused(scatter->picture, (struct refused){id, label, 0, item->refusal}, box);
+        return;
+    }
+    svg_format(svg, "<text x=\"%d\" y=\"%d\"><tspan font-weight=\"bold\">%s</tspan> %s: ", box.x, box.y + 16, id, name);
+    svg_grouped(svg, (int64_t)item->count);
+    svg_markup(svg, is_whole(&scatter->picture->judgement) ? "</text>\n" : ", file refused</text>\n");
+}
+
+/* The five arrays in two columns, and behind them the records that are refused. */
+static void draw_parts(struct scatter *scatter, int y) {
+    enum { WIDTH = 632, ROWS = 3 };
+    for (int part = 0; part <= PARTS; part++) {
+        int x = part < ROWS ? PICTURE_MARGIN : PICTURE_WIDTH - PICTURE_MARGIN - WIDTH;
+        struct box box = {x, y + part % ROWS * PART_HEIGHT, WIDTH, PART_HEIGHT - 4};
+        if (part < PARTS) {
+            draw_part(scatter, part, box);
+        } else if (scatter->forbidden > 0 || scatter->refusal != 0) {
+            draw_refused(scatter->picture, refused_snps(scatter), box);
+        }
+    }
+}
+
+static void draw_scatter(struct scatter *scatter) {
+    enum { PARTS_HEIGHT = 3 * PART_HEIGHT + 20, AXIS_HEIGHT = 50 };
+    struct picture *picture = scatter->picture;
+    int y = picture_head_height(picture) + 6;
+    picture_begin(picture, y + PARTS_HEIGHT + PLOT_SIZE + AXIS_HEIGHT);
+    draw_parts(scatter, y);
+    draw_plot(scatter, y + PARTS_HEIGHT);
+    draw_legend(scatter, y + PARTS_HEIGHT);
+    picture_end(picture);
+}
+
+bool draw_gtc(struct picture *picture) {
+    struct scatter *scatter = take(1, sizeof *scatter);
+    scatter->picture = picture;
+    scatter->taken = take((size_t)(PLOT_SIZE + 1) * (PLOT_SIZE + 1), 1);
+    read_snps(scatter);
+    choose_scale(scatter);
+    draw_scatter(scatter);
+    bool answered = scatter->refusal == 0 && scatter->forbidden == 0;
+    free(scatter->snps);
+    free(scatter->taken);
+    free(scatter);
+    return answered;
+}

@@ -1,0 +1,54 @@
+#include "format.h"
+
+#include "words.h"
+
+#include <inttypes.h>
+#include <string.h>
+
+static bool begins_with(const struct file *file, const char *mark) {
+    size_t length = strlen(mark);
+    return file->length >= length && memcmp(file->bytes, mark, length) == 0;
+}
+
+struct judgement judge(const struct file *file) {
+    struct judgement judgement = {.format = FORMAT_UNKNOWN};
+    if (begins_with(file, "ABIF")) {
+        judgement.format = FORMAT_ABIF;
+        judgement.verdict = jt_abif_judge(file->bytes, file->length);
+    } else if (begins_with(file, ".sff")) {
+        judgement.format = FORMAT_SFF;
+        judgement.verdict = jt_sff_judge(file->bytes, file->length);
+    } else if (begins_with(file, "gtc")) {
+        judgement.format = FORMAT_GTC;
+        judgement.verdict = jt_gtc_judge(file->bytes, file->length);
+    }
+    return judgement;
+}
+
+const char *format_name(enum format format) {
+    static const char *const names[] = {"unknown", "ABIF", "SFF", "GTC"};
+    return names[format];
+}
+
+bool is_whole(const struct judgement *judgement) {
+    return judgement->format != FORMAT_UNKNOWN && judgement->verdict.refusal == 0;
+}
+
+enum status status_of(const struct judgement *judgement) {
+    return is_whole(judgement) ? STATUS_WHOLE : STATUS_REFUSED;
+}
+
+void print_line(const struct file *file, const struct judgement *judgement) {
+    const jt_verdict *verdict = &judgement->verdict;
+    print_path(stdout, file->path);
+    printf(": %s", format_name(judgement->format));
+    if (is_whole(judgement)) {
+        printf(" whole %" PRIu64 " of %zu", verdict->extent, file->length);
+    } else if (judgement->format != FORMAT_UNKNOWN) {
+        printf(" refused %" PRIu64 " at %" PRIu64, verdict->refusal, verdict->entry);
+    }
+    if (is_whole(judgement) && judgement->format == FORMAT_GTC) {
+        printf(" unjudged %" PRIu64, verdict->unjudged);
+    }
+    putchar('\n');
+}

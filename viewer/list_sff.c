@@ -1,0 +1,95 @@
+#include "list.h"
+#include "memory.h"
+#include "words.h"
+
+#include <inttypes.h>
+#include <stdlib.h>
+
+enum { FORBIDDEN_VALUE = 11 };
+
+static void print_header(const struct file *file, const struct jt_sff_header *header) {
+    printf("reads %" PRIu64 ", flows %" PRIu64 ", key ", header->reads, header->flows);
+    print_bytes(stdout, file->bytes + header->key_start, header->key_length);
+    printf(", header of %" PRIu64 " bytes, ", header->header_length);
+    if (header->index_length == 0) {
+        printf("no index\n");
+    } else {
+        printf("index of %" PRIu64 " bytes at %" PRIu64 "\n", header->index_length, header->index_offset);
+    }
+    printf("flow letters ");
+    print_bytes(stdout, file->bytes + header->flow_letters_start, header->flows);
+    putchar('\n');
+}
+
+static void print_refused_read(uint64_t k, uint64_t refusal) {
+    printf("%8" PRIu64 "  refused %" PRIu64 ": %s\n", k, refusal, refusal_meaning(refusal));
+}
+
+static void print_clips(uint64_t left, uint64_t right) {
+    printf("  %5" PRIu64 " %5" PRIu64, left, right);
+}
+
+static void print_read(const struct file *file, uint64_t k, const struct jt_sff_read *read) {
+    if (read->refusal != 0) {
+        print_refused_read(k, read->refusal);
+        return;
+    }
+    printf("%8" PRIu64 "  %7" PRIu64, k, read->bases);
+    print_clips(read->quality_left, read->quality_right);
+    print_clips(read->adapter_left, read->adapter_right);
+    print_clips(read->first, read->last);
+    printf("  ");
+    print_bytes(stdout, file->bytes + read->name_start, read->name_length);
+    putchar('\n');
+}
+
+/* All reads of a file whose reads are all there. */
+static bool list_all(const struct file *file, uint64_t reads) {
+    uint64_t *places = take(reads, sizeof *places);
+    jt_listed listed = jt_sff_places(file->bytes, file->length, 1, places, reads);
+    bool answered = listed.refusal == 0;
+    for (uint64_t k = 1; k <= listed.count; k++) {
+        struct jt_sff_read read = jt_sff_read_at(file->bytes, file->length, places[k - 1]);
+        print_read(file, k, &read);
+        answered = answered && read.refusal == 0;
+    }
+    free(places);
+    return answered;
+}
+
+static uint64_t padded(uint64_t length) {
+    return (length + 7) / 8 * 8;
+}
+
+/* Where the read behind one that was answered starts: behind its padding, and behind the index if that comes next. */
+static uint64_t place_behind(const struct jt_sff_header *header, const struct jt_sff_read *read) {
+    uint64_t place = padded(read->qualities_start + read->bases);
+    bool at_index = header->index_length != 0 && place == header->index_offset;
+    return at_index ? place + padded(header->index_length) : place;
+}
+
+/* The reads of a refused file, up to the first that is not there. Behind a read whose contents are refused, which tells
+   no places, the next one is walked to from the front. */
+static void list_until_refused(const struct file *file, const struct jt_sff_header *header) {
+    struct jt_sff_read read = {.refusal = FORBIDDEN_VALUE};
+    for (uint64_t k = 1; k <= header->reads && (read.refusal == 0 || read.refusal == FORBIDDEN_VALUE); k++) {
+        read = read.refusal == 0 ? jt_sff_read_at(file->bytes, file->length, place_behind(header, &read))
+                                 : jt_sff_read(file->bytes, file->length, k);
+        print_read(file, k, &read);
+    }
+}
+
+bool list_sff(const struct file *file, bool whole) {
+    struct jt_sff_header header = jt_sff_header(file->bytes, file->length);
+    if (header.refusal != 0) {
+        printf("header refused %" PRIu64 ": %s\n", header.refusal, refusal_meaning(header.refusal));
+        return false;
+    }
+    print_header(file, &header);
+    printf("%8s  %7s  %11s  %11s  %11s  %s\n", "read", "bases", "quality", "adapter", "insert", "name");
+    if (whole) {
+        return header.reads == 0 || list_all(file, header.reads);
+    }
+    list_until_refused(file, &header);
+    return false;
+}

@@ -1,0 +1,14 @@
+/* Numbers and floats as they stand in a file, at places that the library answered with. */
+#ifndef VIEWER_NUMBERS_H
+#define VIEWER_NUMBERS_H
+
+#include "file.h"
+
+/* Past the end each of them stops the program: no number is ever made of bytes that are not there. */
+uint16_t big_endian_16(const struct file *file, uint64_t place);
+uint16_t little_endian_16(const struct file *file, uint64_t place);
+uint32_t little_endian_32(const struct file *file, uint64_t place);
+float little_endian_float(const struct file *file, uint64_t place);
+uint8_t byte_at(const struct file *file, uint64_t place);
+
+#endif

@@ -1,0 +1,184 @@
+#include "shelf.h"
+
+#include "memory.h"
+#include "words.h"
+
+#include <dirent.h>
+#include <errno.h>
+#include <inttypes.h>
+#include <stdlib.h>
+#include <string.h>
+#include <sys/stat.h>
+#include <unistd.h>
+
+enum { REFUSALS = 15 };
+
+struct shelf {
+    uint64_t whole;
+    uint64_t unknown;
+    uint64_t unreadable;
+    uint64_t refused;
+    uint64_t by_number[REFUSALS];
+    bool in_folder; /* a folder is being walked */
+    bool folders;   /* a folder was given */
+    bool terminal;  /* stderr is one, so that a progress line can be shown */
+};
+
+static void show_progress(const struct shelf *shelf) {
+    if (shelf->terminal && shelf->in_folder) {
+        uint64_t files = shelf->whole + shelf->refused + shelf->unknown + shelf->unreadable;
+        fprintf(stderr, "%" PRIu64 " files, %" PRIu64 " not whole ...", files, files - shelf->whole);
+        fflush(stderr);
+    }
+}
+
+static void erase_progress(const struct shelf *shelf) {
+    if (shelf->terminal && shelf->in_folder) {
+        fputs("\r\033[K", stderr);
+        fflush(stderr);
+    }
+}
+
+static void report_unreadable(struct shelf *shelf, const char *path, const char *reason) {
+    erase_progress(shelf);
+    fputs("jtview: ", stderr);
+    print_path(stderr, path);
+    fprintf(stderr, ": %s\n", reason);
+    shelf->unreadable++;
+    show_progress(shelf);
+}
+
+static void count(struct shelf *shelf, const struct judgement *judgement) {
+    if (is_whole(judgement)) {
+        shelf->whole++;
+    } else if (judgement->format == FORMAT_UNKNOWN) {
+        shelf->unknown++;
+    } else {
+        shelf->refused++;
+        shelf->by_number[judgement->verdict.refusal % REFUSALS]++;
+    }
+}
+
+static void judge_file(struct shelf *shelf, const char *path) {
+    struct file file;
+    const char *reason = file_open(&file, path);
+    if (reason != NULL) {
+        report_unreadable(shelf, path, reason);
+        return;
+    }
+    struct judgement judgement = judge(&file);
+    count(shelf, &judgement);
+    erase_progress(shelf);
+    print_line(&file, &judgement);
+    fflush(stdout);
+    show_progress(shelf);
+    file_close(&file);
+}
+
+static int by_bytes(const void *left, const void *right) {
+    return strcmp(*(char *const *)left, *(char *const *)right);
+}
+
+/* The names in a folder, sorted, and their number; NULL, with errno, where it cannot be read. */
+static char **sorted_names(const char *path, size_t *count) {
+    DIR *folder = opendir(path);
+    if (folder == NULL) {
+        return NULL;
+    }
+    size_t room = 16;
+    char **names = take(room, sizeof *names);
+    *count = 0;
+    for (struct dirent *entry = readdir(folder); entry != NULL; entry = readdir(folder)) {
+        if (strcmp(entry->d_name, ".") == 0 || strcmp(entry->d_name, "..") == 0) {
+            continue;
+        }
+        if (*count == room) {
+            room *= 2;
+            names = take_more(names, room, sizeof *names);
+        }
+        names[(*count)++] = copy_text(entry->d_name);
+    }
+    closedir(folder);
+    qsort(names, *count, sizeof *names, by_bytes);
+    return names;
+}
+
+static void walk_folder(struct shelf *shelf, const char *path);
+
+/* A link to a folder is passed over, so that no walk goes in a circle. */
+static void judge_entry(struct shelf *shelf, const char *path) {
+    struct stat itself;
+    struct stat target;
+    if (stat(path, &target) != 0 || lstat(path, &itself) != 0) {
+        report_unreadable(shelf, path, strerror(errno));
+    } else if (!S_ISDIR(target.st_mode)) {
+        judge_file(shelf, path);
+    } else if (!S_ISLNK(itself.st_mode)) {
+        walk_folder(shelf, path);
+    }
+}
+
+static char *path_in(const char *folder, const char *name) {
+    size_t length = strlen(folder);
+    const char *slash = length > 0 && folder[length - 1] == '/' ? "" : "/";
+    size_t room = length + strlen(name) + 2;
+    char *path = take(room, 1);
+    snprintf(path, room, "%s%s%s", folder, slash, name);
+    return path;
+}
+
+static void walk_folder(struct shelf *shelf, const char *path) {
+    size_t count = 0;
+    char **names = sorted_names(path, &count);
+    if (names == NULL) {
+        report_unreadable(shelf, path, strerror(errno));
+        return;
+    }
+    for (size_t i = 0; i < count; i++) {
+        char *inside = path_in(path, names[i]);
+        judge_entry(shelf, inside);
+        free(inside);
+        free(names[i]);
+    }
+    free(names);
+}
+
+static void print_summary(const struct shelf *shelf) {
+    uint64_t files = shelf->whole + shelf->refused + shelf->unknown + shelf->unreadable;
+    printf("%" PRIu64 " files: %" PRIu64 " whole, %" PRIu64 " refused, %" PRIu64 " unknown, %" PRIu64 " not readable\n",
+           files, shelf->whole, shelf->refused, shelf->unknown, shelf->unreadable);
+    for (uint64_t refusal = 1; refusal < REFUSALS; refusal++) {
+        if (shelf->by_number[refusal] > 0) {
+            printf("  refused %" PRIu64 ": %" PRIu64 " (%s)\n", refusal, shelf->by_number[refusal],
+                   refusal_meaning(refusal));
+        }
+    }
+}
+
+static void judge_path(struct shelf *shelf, const char *path) {
+    struct stat state;
+    if (stat(path, &state) != 0 || !S_ISDIR(state.st_mode)) {
+        judge_file(shelf, path);
+        return;
+    }
+    shelf->folders = true;
+    shelf->in_folder = true;
+    show_progress(shelf);
+    walk_folder(shelf, path);
+    erase_progress(shelf);
+    shelf->in_folder = false;
+}
+
+enum status judge_paths(char *const paths[], int count) {
+    struct shelf shelf = {.terminal = isatty(STDERR_FILENO)};
+    for (int i = 0; i < count; i++) {
+        judge_path(&shelf, paths[i]);
+    }
+    if (shelf.folders) {
+        print_summary(&shelf);
+    }
+    if (shelf.unreadable > 0) {
+        return STATUS_UNREADABLE;
+    }
+    return shelf.refused + shelf.unknown > 0 ? STATUS_REFUSED : STATUS_WHOLE;
+}

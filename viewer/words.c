@@ -1,0 +1,103 @@
+#include "words.h"
+
+const char *refusal_meaning(uint64_t refusal) {
+    static const char *const meanings[] = {
+        [1] = "cut short: a byte that the rule needs lies at or past the end",
+        [2] = "opening mark of another kind",
+        [3] = "version not handled",
+        [4] = "header fields contradict the format",
+        [5] = "more than 999 entries",
+        [6] = "negative offset, or offset below the lowest allowed",
+        [7] = "no such tag, id or read",
+        [8] = "tag or id stands twice",
+        [9] = "sizes or counts contradict each other",
+        [10] = "type or id not handled by this call",
+        [11] = "a value that the format forbids",
+        [12] = "no such element",
+        [13] = "lent output too small",
+        [14] = "items not strictly ascending",
+    };
+    if (refusal < 1 || refusal >= sizeof meanings / sizeof meanings[0]) {
+        return "no refusal";
+    }
+    return meanings[refusal];
+}
+
+const char *abif_type_name(int64_t code) {
+    static const struct {
+        int16_t code;
+        const char *name;
+    } types[] = {
+        {1, "byte"},     {2, "char"},   {3, "word"},        {4, "short"},     {5, "long"},       {6, "rational"},
+        {7, "float"},    {8, "double"}, {9, "BCD"},         {10, "date"},     {11, "time"},      {12, "thumb"},
+        {13, "bool"},    {14, "point"}, {15, "rect"},       {16, "vPoint"},   {17, "vRect"},     {18, "pString"},
+        {19, "cString"}, {20, "tag"},   {128, "deltaComp"}, {256, "LZWComp"}, {384, "deltaLZW"},
+    };
+    for (size_t i = 0; i < sizeof types / sizeof types[0]; i++) {
+        if (types[i].code == code) {
+            return types[i].name;
+        }
+    }
+    return code >= 1024 ? "user" : "unknown";
+}
+
+static const struct gtc_row ROWS[] = {
+    {1, GTC_VALUE, "NumSNPs", "int32"},
+    {2, GTC_VALUE, "Ploidy", "int32"},
+    {3, GTC_VALUE, "Ploidy Type", "int32"},
+    {10, GTC_TEXT, "Sample Name", "string"},
+    {11, GTC_TEXT, "Sample Plate", "string"},
+    {12, GTC_TEXT, "Sample Well", "string"},
+    {100, GTC_TEXT, "Cluster File", "string"},
+    {101, GTC_TEXT, "SNP Manifest", "string"},
+    {200, GTC_TEXT, "Imaging Date", "string"},
+    {201, GTC_TEXT, "AutoCall Date", "string"},
+    {300, GTC_TEXT, "AutoCall Version", "string"},
+    {400, GTC_ARRAY, "Normalization Transformations", "XForm[]"},
+    {500, GTC_ARRAY, "Raw Control X", "ushort[]"},
+    {501, GTC_ARRAY, "Raw Control Y", "ushort[]"},
+    {1000, GTC_ARRAY, "Raw X intensity values", "ushort[]"},
+    {1001, GTC_ARRAY, "Raw Y intensity values", "ushort[]"},
+    {1002, GTC_ARRAY, "Genotypes", "byte[]"},
+    {1003, GTC_ARRAY, "BaseCalls", "BaseCall[]"},
+    {1004, GTC_ARRAY, "Genotype Scores", "float[]"},
+    {1005, GTC_BLOCK, "Scanner Data", "block"},
+    {1006, GTC_FLOAT, "Call Rate", "float"},
+    {1007, GTC_TEXT, "Estimated Gender", "char"},
+    {1008, GTC_FLOAT, "LogR Dev", "float"},
+    {1009, GTC_FLOAT, "p10GC", "float"},
+    {1010, GTC_VALUE, "DX", "int32"},
+    {1011, GTC_BLOCK, "Extended sample data", "block"},
+    {1012, GTC_ARRAY, "B Allele Frequencies", "float[]"},
+    {1013, GTC_ARRAY, "LogR Ratios", "float[]"},
+    {1014, GTC_BLOCK, "Intensity percentiles (X)", "block"},
+    {1015, GTC_BLOCK, "Intensity percentiles (Y)", "block"},
+    {1016, GTC_TEXT, "Sentrix ID", "string"},
+};
+
+const struct gtc_row *gtc_row_of(uint16_t id) {
+    for (size_t i = 0; i < sizeof ROWS / sizeof ROWS[0]; i++) {
+        if (ROWS[i].id == id) {
+            return &ROWS[i];
+        }
+    }
+    return NULL;
+}
+
+void print_bytes(FILE *out, const uint8_t *bytes, size_t length) {
+    for (size_t i = 0; i < length; i++) {
+        fputc(bytes[i] >= 32 && bytes[i] <= 126 ? bytes[i] : '.', out);
+    }
+}
+
+void print_tag_name(FILE *out, uint32_t name) {
+    uint8_t bytes[4] = {(uint8_t)(name >> 24), (uint8_t)(name >> 16), (uint8_t)(name >> 8), (uint8_t)name};
+    print_bytes(out, bytes, sizeof bytes);
+}
+
+void print_path(FILE *out, const char *path) {
+    for (; *path != '\0'; path++) {
+        unsigned char byte = (unsigned char)*path;
+        fputc(byte < 32 || byte == 127 ? '?' : byte, out);
+    }
+}
