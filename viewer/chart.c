@@ -7,10 +7,19 @@
 #include <string.h>
 
 static void spell(struct spelled *spelled, int tenths, char behind) {
-    int length = tenths % 10 == 0
-                     ? snprintf(spelled->text, sizeof spelled->text, "%d%c", tenths / 10, behind)
-                     : snprintf(spelled->text, sizeof spelled->text, "%d.%d%c", tenths / 10, tenths % 10, behind);
-    spelled->length = (uint8_t)length;
+    char digits[sizeof spelled->text];
+    size_t count = 0;
+    for (int rest = tenths / 10; rest > 0 || count == 0; rest /= 10) {
+        digits[count++] = (char)('0' + rest % 10);
+    }
+    while (count > 0) {
+        spelled->text[spelled->length++] = digits[--count];
+    }
+    if (tenths % 10 != 0) {
+        spelled->text[spelled->length++] = '.';
+        spelled->text[spelled->length++] = (char)('0' + tenths % 10);
+    }
+    spelled->text[spelled->length++] = behind;
 }
 
 static void spell_coordinates(struct chart *chart) {
@@ -120,9 +129,4 @@ void draw_refused_channel(struct chart *chart, int channel, struct box box) {
     char label[32];
     snprintf(label, sizeof label, base != 0 ? "%s, base %c" : "%s", numbers->tag, base);
     draw_refused(chart->picture, (struct refused){numbers->tag, label, 0, numbers->refusal}, box);
-}
-
-int64_t chart_tenths(const struct chart *chart, int64_t value) {
-    double tenths = (double)(chart->top - value) * chart->tenths;
-    return (int64_t)(tenths < 0 ? tenths - 0.5 : tenths + 0.5);
 }

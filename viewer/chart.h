@@ -57,6 +57,9 @@ const char *channel_colour(const struct run *run, int channel);
 const char *channel_dashes(const struct run *run, int channel);
 
 /* A value's distance from the top of the plot, in tenths of a pixel. */
-int64_t chart_tenths(const struct chart *chart, int64_t value);
+static inline int64_t chart_tenths(const struct chart *chart, int64_t value) {
+    double tenths = (double)(chart->top - value) * chart->tenths;
+    return (int64_t)(tenths < 0 ? tenths - 0.5 : tenths + 0.5);
+}
 
 #endif

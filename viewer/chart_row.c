@@ -48,22 +48,42 @@ static void draw_places(struct chart *chart, uint64_t first) {
     svg_format(svg, "<text class=\"small end\" x=\"-22\" y=\"%d\">point</text>\n", PLOT_HEIGHT + 15);
 }
 
-static void draw_point(struct chart *chart, uint64_t column, int64_t value, struct outside *outside) {
-    struct svg *svg = &chart->picture->svg;
-    int64_t y = chart_tenths(chart, value);
+/* A point whose value lies on the scale, by texts of a fixed length, the sooner copied; what is too much is written
+ * over. */
+static char *put_point(const struct chart *chart, char *out, uint64_t column, int64_t value) {
     const struct spelled *x = &chart->x[column];
-    if (value > chart->top || value < chart->bottom) {
-        outside->highest = value > outside->highest ? value : outside->highest;
-        outside->lowest = value < outside->lowest ? value : outside->lowest;
-        svg_markup(svg, x->text);
-        svg_tenths(svg, y);
-        svg_markup(svg, " ");
-        return;
+    const struct spelled *y = &chart->y[chart_tenths(chart, value)];
+    memcpy(out, x, sizeof *x);
+    out += x->length;
+    memcpy(out, y, sizeof *y);
+    return out + y->length;
+}
+
+static void draw_point_outside(struct chart *chart, uint64_t column, int64_t value, struct outside *outside) {
+    struct svg *svg = &chart->picture->svg;
+    outside->highest = value > outside->highest ? value : outside->highest;
+    outside->lowest = value < outside->lowest ? value : outside->lowest;
+    svg_number(svg, (int64_t)(POINT_WIDTH * column));
+    svg_markup(svg, ",");
+    svg_tenths(svg, chart_tenths(chart, value));
+    svg_markup(svg, " ");
+}
+
+static void draw_points(struct chart *chart, const int64_t *values, uint64_t count, struct outside *outside) {
+    enum { MOST = (POINTS + 2) * 2 * sizeof(struct spelled) };
+    struct svg *svg = &chart->picture->svg;
+    char *start = svg_room(svg, MOST);
+    char *out = start;
+    for (uint64_t i = 0; i < count; i++) {
+        if (values[i] <= chart->top && values[i] >= chart->bottom) {
+            out = put_point(chart, out, i, values[i]);
+        } else {
+            svg_used(svg, (size_t)(out - start));
+            draw_point_outside(chart, i, values[i], outside);
+            out = start = svg_room(svg, MOST);
+        }
     }
-    char *room = svg_room(svg, 2 * sizeof x->text);
-    memcpy(room, x->text, sizeof x->text);
-    memcpy(room + x->length, chart->y[y].text, sizeof chart->y[y].text);
-    svg_used(svg, (size_t)x->length + chart->y[y].length);
+    svg_used(svg, (size_t)(out - start));
 }
 
 /* The channel's line in the row that starts at point `first`; none where the channel ends before it. */
@@ -74,14 +94,12 @@ static void draw_trace(struct chart *chart, int channel, uint64_t first, struct 
     if (numbers->count <= first + 1 && !only_point) {
         return;
     }
-    uint64_t last = first + POINTS < numbers->count ? first + POINTS : numbers->count - 1;
+    uint64_t left = numbers->count - first;
     svg_format(svg, "<polyline class=\"trace\" data-part=\"%s\" stroke=\"%s\" stroke-dasharray=\"%s\" points=\"",
                numbers->tag, channel_colour(chart->run, channel), channel_dashes(chart->run, channel));
-    for (uint64_t i = first; i <= last; i++) {
-        draw_point(chart, i - first, numbers->values[i], outside);
-    }
+    draw_points(chart, numbers->values + first, left < POINTS + 1 ? left : POINTS + 1, outside);
     if (only_point) {
-        draw_point(chart, 0, numbers->values[0], outside);
+        draw_points(chart, numbers->values, 1, outside);
     }
     svg_markup(svg, "\"/>\n");
 }

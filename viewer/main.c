@@ -28,6 +28,7 @@ static void end_of_a_cut_file(int signal) {
     ssize_t written = write(STDERR_FILENO, message, sizeof message - 1);
     (void)signal;
     (void)written;
+    svg_abandon();
     _exit(STATUS_UNREADABLE);
 }
 
@@ -130,6 +131,7 @@ static int run_command(int count, char *const arguments[]) {
 
 int main(int count, char *arguments[]) {
     signal(SIGBUS, end_of_a_cut_file);
+    atexit(svg_abandon);
     if (count < 2) {
         return usage();
     }

@@ -4,8 +4,9 @@
 
 #include <stddef.h>
 
-/* Room for `count` elements, cleared or made longer. */
+/* Room for `count` elements: cleared, as it comes, or made longer. */
 void *take(size_t count, size_t size);
+void *take_unset(size_t count, size_t size);
 void *take_more(void *old, size_t count, size_t size);
 
 char *copy_text(const char *text);

@@ -24,7 +24,7 @@ static void read_numbers(struct item_numbers *numbers, const struct file *file, 
     snprintf(numbers->tag, sizeof numbers->tag, "%s %" PRId32, name, number);
     jt_item item = jt_abif_lookup(file->bytes, file->length, tag_name(name), number);
     uint64_t room = item.count < item.length ? item.count : item.length;
-    numbers->values = take(room, sizeof *numbers->values);
+    numbers->values = take_unset(room, sizeof *numbers->values);
     jt_listed listed =
         jt_abif_whole_numbers(file->bytes, file->length, tag_name(name), number, 1, numbers->values, room);
     numbers->refusal = listed.refusal;

@@ -2,7 +2,7 @@
 
 #include <stddef.h>
 
-enum { BINS = 4096, FEW = 500, LOWEST_TOP = 100 };
+enum { BINS = 4096, FEW = 500, SAMPLED = 4, LOWEST_TOP = 100 };
 
 /* Whole numbers of up to 31 bits stand in the files, so that nothing here passes 64. */
 int64_t round_above(int64_t value) {
@@ -17,20 +17,24 @@ int64_t round_above(int64_t value) {
 }
 
 void census_range(struct census *census, const int64_t *values, uint64_t count) {
+    int64_t lowest = census->lowest;
+    int64_t highest = census->highest;
     for (uint64_t i = 0; i < count; i++) {
-        census->lowest = values[i] < census->lowest ? values[i] : census->lowest;
-        census->highest = values[i] > census->highest ? values[i] : census->highest;
+        lowest = values[i] < lowest ? values[i] : lowest;
+        highest = values[i] > highest ? values[i] : highest;
     }
+    census->lowest = lowest;
+    census->highest = highest;
     while (census->highest >> census->shift >= BINS) {
         census->shift++;
     }
 }
 
 void census_count(struct census *census, const int64_t *values, uint64_t count) {
-    for (uint64_t i = 0; i < count; i++) {
+    for (uint64_t i = 0; i < count; i += SAMPLED) {
         census->bins[values[i] < 0 ? 0 : values[i] >> census->shift]++;
+        census->total++;
     }
-    census->total += count;
 }
 
 int64_t census_top(const struct census *census) {

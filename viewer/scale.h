@@ -7,7 +7,7 @@
 /* A round number that is not below the value. */
 int64_t round_above(int64_t value);
 
-/* Counts values, to find a level that only few of them pass. */
+/* Counts every fourth value, to find a level that only few of them pass. */
 struct census {
     int64_t lowest;
     int64_t highest;
@@ -19,7 +19,8 @@ struct census {
 void census_range(struct census *census, const int64_t *values, uint64_t count);
 void census_count(struct census *census, const int64_t *values, uint64_t count);
 
-/* The top of a scale on which all but one value in 500 take two thirds at most; the highest value's where that is less.
+/* The top of a scale on which all but one counted value in 500 take two thirds at most; the highest value's where that
+ * is less.
  */
 int64_t census_top(const struct census *census);
 

@@ -8,12 +8,27 @@
 #include <sys/stat.h>
 #include <unistd.h>
 
+/* The regular file that is being written. */
+static const char *volatile unfinished;
+
+void svg_abandon(void) {
+    if (unfinished != NULL) {
+        unlink(unfinished);
+    }
+}
+
 const char *svg_open(struct svg *svg, const char *path) {
-    svg->path = path;
+    struct stat state;
     svg->used = 0;
     svg->failure = NULL;
     svg->descriptor = open(path, O_WRONLY | O_CREAT | O_TRUNC | O_CLOEXEC, 0666);
-    return svg->descriptor < 0 ? strerror(errno) : NULL;
+    if (svg->descriptor < 0) {
+        return strerror(errno);
+    }
+    if (fstat(svg->descriptor, &state) == 0 && S_ISREG(state.st_mode)) {
+        unfinished = path;
+    }
+    return NULL;
 }
 
 static void flush(struct svg *svg) {
@@ -29,21 +44,15 @@ static void flush(struct svg *svg) {
     svg->used = 0;
 }
 
-static void remove_unfinished(const struct svg *svg) {
-    struct stat state;
-    if (lstat(svg->path, &state) == 0 && S_ISREG(state.st_mode)) {
-        unlink(svg->path);
-    }
-}
-
 const char *svg_close(struct svg *svg) {
     flush(svg);
     if (close(svg->descriptor) != 0 && svg->failure == NULL) {
         svg->failure = strerror(errno);
     }
     if (svg->failure != NULL) {
-        remove_unfinished(svg);
+        svg_abandon();
     }
+    unfinished = NULL;
     return svg->failure;
 }
 

@@ -9,7 +9,6 @@
 enum { SVG_BUFFER = 1 << 16 };
 
 struct svg {
-    const char *path;
     int descriptor;
     size_t used;
     const char *failure; /* NULL, or the reason of the first write that failed */
@@ -21,6 +20,9 @@ const char *svg_open(struct svg *svg, const char *path);
 
 /* The same; a file that could not be written whole is removed. */
 const char *svg_close(struct svg *svg);
+
+/* Removes the file that is being written, if there is one: for a program that ends before its time. */
+void svg_abandon(void);
 
 /* Room for `length` bytes, at most SVG_BUFFER, at the end of what is written; svg_used tells how many were filled. */
 char *svg_room(struct svg *svg, size_t length);
