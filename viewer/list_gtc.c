@@ -18,7 +18,7 @@ static void print_value(const struct file *file, const struct gtc_row *row, cons
         print_bytes(stdout, file->bytes + item->start, item->length);
         break;
     case GTC_ARRAY:
-        printf("  %" PRIu64 " elements, %" PRIu64 " bytes at %" PRIu64, item->count, item->length, item->start);
+        printf("  count %" PRIu64 ", %" PRIu64 " bytes at %" PRIu64, item->count, item->length, item->start);
         break;
     case GTC_BLOCK:
         printf("  %" PRIu64 " bytes at %" PRIu64, item->length, item->start);
@@ -50,7 +50,7 @@ bool list_gtc(const struct file *file) {
         printf("table of contents refused %" PRIu64 ": %s\n", refusal, refusal_meaning(refusal));
         return false;
     }
-    printf("%5s  %-29s  %-10s  %s\n", "id", "name", "type", "value, or elements and place");
+    printf("%5s  %-29s  %-10s  %s\n", "id", "name", "type", "value, or count and place");
     bool answered = true;
     for (uint32_t entry = 1; entry <= gtc_entries(file); entry++) {
         answered = print_entry(file, gtc_entry_id(file, entry)) && answered;

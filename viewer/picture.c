@@ -32,6 +32,17 @@ int picture_head_height(const struct picture *picture) {
     return is_whole(&picture->judgement) ? TITLE_HEIGHT : TITLE_HEIGHT + BANNER_HEIGHT;
 }
 
+/* The name that an ABIF file gives its sample, if it can be read. */
+static void draw_sample_name(struct picture *picture) {
+    enum { SAMPLE_NAME = 0x534D504C };
+    const struct file *file = picture->file;
+    jt_part name = jt_abif_text(file->bytes, file->length, SAMPLE_NAME, 1);
+    if (name.refusal == 0) {
+        svg_markup(&picture->svg, "; sample ");
+        svg_bytes(&picture->svg, file->bytes + name.start, name.length);
+    }
+}
+
 static void draw_title(struct picture *picture) {
     struct svg *svg = &picture->svg;
     const struct judgement *judgement = &picture->judgement;
@@ -46,7 +57,11 @@ static void draw_title(struct picture *picture) {
         svg_format(svg, "%s, refused: ", format_name(judgement->format));
     }
     svg_grouped(svg, (int64_t)picture->file->length);
-    svg_markup(svg, " bytes</text>\n");
+    svg_markup(svg, " bytes");
+    if (judgement->format == FORMAT_ABIF) {
+        draw_sample_name(picture);
+    }
+    svg_markup(svg, "</text>\n");
 }
 
 static void draw_tag(struct picture *picture, uint64_t entry) {
