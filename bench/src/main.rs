@@ -1,9 +1,10 @@
-//! The library's time against the plain Rust readers' and writers', call by call in one run.
+//! The library's time against the plain Rust readers' and writers', call by call in one run, and the viewer's commands.
 
 mod abif;
 mod gtc;
 mod sff;
 mod timing;
+mod viewer;
 
 fn main() {
     for tags in [130, 999] {
@@ -24,4 +25,5 @@ fn main() {
     gtc::single_snps(&file);
     gtc::all_snps(&file);
     gtc::normalising(&file);
+    viewer::commands();
 }

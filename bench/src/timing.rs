@@ -12,23 +12,31 @@ pub fn compare_times(
     mut reader: impl FnMut(),
 ) {
     let calls = calls_in_a_batch(&mut reader);
-    let mut library_times = Vec::new();
-    let mut reader_times = Vec::new();
-    for round in 0..rounds {
-        if round % 2 == 0 {
-            library_times.push(time(calls, &mut library));
-            reader_times.push(time(calls, &mut reader));
-        } else {
-            reader_times.push(time(calls, &mut reader));
-            library_times.push(time(calls, &mut library));
-        }
-    }
-    let library = median(library_times);
-    let reader = median(reader_times);
+    let [library, reader] = medians(rounds, calls, [&mut library, &mut reader]);
     println!(
         "{name}: library {library:.2} µs, plain Rust {reader:.2} µs, ratio {:.2}",
         library / reader
     );
+}
+
+/// The median times of so many calls of each side; every second round goes backwards.
+pub fn medians<const SIDES: usize>(
+    rounds: usize,
+    calls: u32,
+    mut sides: [&mut dyn FnMut(); SIDES],
+) -> [f64; SIDES] {
+    let mut times = [(); SIDES].map(|()| Vec::new());
+    for round in 0..rounds {
+        for turn in 0..SIDES {
+            let side = if round % 2 == 0 {
+                turn
+            } else {
+                SIDES - 1 - turn
+            };
+            times[side].push(time(calls, &mut sides[side]));
+        }
+    }
+    times.map(median)
 }
 
 fn calls_in_a_batch(call: &mut impl FnMut()) -> u32 {

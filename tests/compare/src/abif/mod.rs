@@ -12,7 +12,7 @@ mod opened;
 mod published;
 mod questions;
 pub mod reader;
-mod run;
+pub mod run;
 pub mod samples;
 mod whole;
 pub mod writer;

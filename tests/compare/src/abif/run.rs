@@ -5,7 +5,6 @@ use super::generate::{plain_file, Content, Order};
 use super::reader::Tag;
 use crate::random::Random;
 
-const POINTS: usize = 1760;
 const BASES: usize = 145;
 const FIRST_PLACE: usize = 18;
 const SPACING: usize = 12;
@@ -32,8 +31,13 @@ struct Base {
 
 /// The run, with the directory at 128 and the data of DATA 12 at the end.
 pub fn run() -> Draft {
+    run_of(BASES)
+}
+
+/// A run of so many bases.
+pub fn run_of(count: usize) -> Draft {
     let mut random = Random::new(61);
-    let bases = bases(&mut random);
+    let bases = bases(&mut random, count);
     let mut items = named_items();
     items.extend(called_items(&bases));
     for channel in 0..4 {
@@ -53,27 +57,31 @@ pub fn run() -> Draft {
 
 /// How many bytes the data of a channel take.
 pub const fn channel_length() -> usize {
-    2 * POINTS
+    2 * points_of(BASES)
 }
 
-fn bases(random: &mut Random) -> Vec<Base> {
-    (0..BASES)
+const fn points_of(count: usize) -> usize {
+    FIRST_PLACE + SPACING * count + 2
+}
+
+fn bases(random: &mut Random, count: usize) -> Vec<Base> {
+    (0..count)
         .map(|index| {
             let place = FIRST_PLACE + SPACING * index + random.below(2);
             if UNCLEAR.contains(&index) {
                 unclear_base(random, place)
             } else {
-                clear_base(random, place, index)
+                clear_base(random, place, index.min(count - 1 - index))
             }
         })
         .collect()
 }
 
-fn clear_base(random: &mut Random, place: usize, index: usize) -> Base {
+// Less sure the nearer it is to an end of the run.
+fn clear_base(random: &mut Random, place: usize, from_end: usize) -> Base {
     let channel = random.below(4);
     let mut heights = [0; 4];
     heights[channel] = random.between(500, 1600);
-    let from_end = index.min(BASES - 1 - index);
     Base {
         letter: BASE_ORDER[channel],
         place,
@@ -99,7 +107,7 @@ fn unclear_base(random: &mut Random, place: usize) -> Base {
 
 // The trace of one channel, its peaks so many points later than the bases' places.
 fn peaks(bases: &[Base], channel: usize, kernel: &[usize], later: usize) -> Vec<usize> {
-    let mut points = vec![0; POINTS];
+    let mut points = vec![0; points_of(bases.len())];
     for base in bases {
         for (at, point) in points.iter_mut().enumerate() {
             let distance = at.abs_diff(base.place + later);
@@ -121,8 +129,9 @@ fn analysed_points(random: &mut Random, bases: &[Base], channel: usize) -> Vec<u
 // Above the dye's own light, which falls slowly, and moved as the dye moves the fragments.
 fn raw_points(random: &mut Random, bases: &[Base], channel: usize) -> Vec<usize> {
     let mut points = peaks(bases, channel, &RAW_PEAK, 2 * channel);
+    let length = points.len();
     for (at, point) in points.iter_mut().enumerate() {
-        let offset = DYE_OFFSETS[channel] - DYE_OFFSETS[channel] * at / (8 * POINTS);
+        let offset = DYE_OFFSETS[channel] - DYE_OFFSETS[channel] * at / (8 * length);
         *point = offset + *point * (7 - channel) / 8 + random.below(25);
     }
     points
