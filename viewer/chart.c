@@ -105,10 +105,14 @@ int row_height_above(const struct chart *chart) {
     return chart->run->qualified ? QUALITY_HEIGHT + LETTERS_HEIGHT : LETTERS_HEIGHT;
 }
 
+int lane_height(const struct chart *chart) {
+    return chart->length > 0 ? 24 : 48;
+}
+
 int row_height(const struct chart *chart) {
     enum { GAP = 22 };
     int plot = chart->length > 0 ? PLOT_HEIGHT + AXIS_HEIGHT : 0;
-    return row_height_above(chart) + plot + refused_channels(chart->run) * LANE_HEIGHT + GAP;
+    return row_height_above(chart) + plot + refused_channels(chart->run) * lane_height(chart) + GAP;
 }
 
 const char *channel_colour(const struct run *run, int channel) {

@@ -11,8 +11,7 @@ enum {
     PLOT_HEIGHT = 130,
     QUALITY_HEIGHT = 36,
     LETTERS_HEIGHT = 32,
-    AXIS_HEIGHT = 20,
-    LANE_HEIGHT = 24
+    AXIS_HEIGHT = 20
 };
 
 /* A coordinate as text, with the sign that stands behind it. */
@@ -44,6 +43,9 @@ void chart_free(struct chart *chart);
 /* How high a row is above its plot's top, and in all. */
 int row_height_above(const struct chart *chart);
 int row_height(const struct chart *chart);
+
+/* How high the hatched box of a refused channel is in a row, with the gap below it. */
+int lane_height(const struct chart *chart);
 
 /* Draws a row with the top of its plot at `y`. */
 void draw_row(struct chart *chart, uint64_t row, int64_t y);

@@ -208,8 +208,8 @@ static void draw_plot(struct chart *chart, uint64_t row) {
 static void draw_refused_lanes(struct chart *chart, int y) {
     for (int i = 0; i < CHANNELS; i++) {
         if (chart->run->channels[i].refusal != 0) {
-            draw_refused_channel(chart, i, (struct box){0, y, PLOT_WIDTH, LANE_HEIGHT - 2});
-            y += LANE_HEIGHT;
+            draw_refused_channel(chart, i, (struct box){0, y, PLOT_WIDTH, lane_height(chart) - 2});
+            y += lane_height(chart);
         }
     }
 }

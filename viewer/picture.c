@@ -170,8 +170,8 @@ static void draw_box_text(struct picture *picture, struct refused refused, struc
                           refusal_meaning(refused.refusal));
     int width = length * TEXT_WIDTH + 12;
     int middle = box.y + box.height / 2;
-    svg_format(svg, "<rect x=\"%d\" y=\"%d\" width=\"%d\" height=\"16\" fill=\"#fff\"/>", box.x + 6, middle - 8,
-               width < box.width - 12 ? width : box.width - 12);
+    svg_format(svg, "<rect x=\"%d\" y=\"%d\" width=\"%d\" height=\"16\" fill=\"#fff\" fill-opacity=\".85\"/>",
+               box.x + 6, middle - 8, width < box.width - 12 ? width : box.width - 12);
     svg_format(svg, "<text class=\"box\" x=\"%d\" y=\"%d\">%s</text>\n", box.x + 12, middle + 5, text);
 }
 
