@@ -2,7 +2,7 @@
 
 pub mod answers;
 mod damage;
-mod draft;
+pub mod draft;
 pub mod generate;
 pub mod library;
 mod published;
