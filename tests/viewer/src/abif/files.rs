@@ -1,0 +1,106 @@
+//! Small sequencing runs to be cut and damaged.
+
+use compare::abif::generate::{plain_file, Content, Order};
+use compare::abif::reader::Tag;
+use compare::random::Random;
+
+type Items = Vec<(Tag, Content)>;
+
+const SPACING: usize = 9;
+
+/// Called bases in every way that the rules tell apart: sure, unsure, small, and no letters at all.
+const LETTERS: &[u8] = b"GATCNRYSWKMBDHVgatcn-*G\x01A\xFF<&C";
+
+/// Runs to be cut: the directory before and behind the data, one row and two, and raw data alone.
+pub fn runs() -> Vec<Vec<u8>> {
+    vec![
+        run([60, 84, 41, 72], Order::DirectoryFirst),
+        run([75, 60, 66, 60], Order::DirectoryLast),
+        run([620, 700, 60, 601], Order::DirectoryFirst),
+        raw_run(Order::DirectoryFirst),
+        second_calls(),
+    ]
+}
+
+/// A run whose channels have these lengths, with raw data too.
+pub fn run(lengths: [usize; 4], order: Order) -> Vec<u8> {
+    let mut random = Random::new(71);
+    let mut items = raw_channels(&mut random, [20, 23, 1, 18]);
+    items.push((Tag::new(b"FWO_", 1), Content::listed(2, b"GATC".to_vec())));
+    items.extend(called(&mut random, 1, lengths));
+    for (number, length) in (9..).zip(lengths) {
+        items.push((Tag::new(b"DATA", number), channel(&mut random, length)));
+    }
+    plain_file(&items, order).bytes()
+}
+
+/// A run of four channels of the same length, and nothing else.
+pub fn channels(length: usize) -> Vec<u8> {
+    let mut random = Random::new(72);
+    let items: Items = (9..=12)
+        .map(|number| (Tag::new(b"DATA", number), channel(&mut random, length)))
+        .collect();
+    plain_file(&items, Order::DirectoryFirst).bytes()
+}
+
+fn raw_run(order: Order) -> Vec<u8> {
+    let mut random = Random::new(73);
+    let mut items = raw_channels(&mut random, [64, 40, 97, 60]);
+    items.push((Tag::new(b"FWO_", 1), Content::listed(2, b"ACGT".to_vec())));
+    items.extend(called(&mut random, 1, [64, 40, 97, 60]));
+    plain_file(&items, order).bytes()
+}
+
+// The bases of the second calling alone, with numbers of other types.
+fn second_calls() -> Vec<u8> {
+    let mut random = Random::new(74);
+    let mut items = called(&mut random, 2, [80, 80, 80, 80]);
+    items.push((Tag::new(b"FWO_", 1), Content::listed(1, b"TGCA".to_vec())));
+    for (number, code) in (9..).zip([5, 3, 2, 1]) {
+        let data = match code {
+            5 => longs(&mut random, 80),
+            3 => random.bytes(160),
+            _ => random.bytes(80),
+        };
+        items.push((Tag::new(b"DATA", number), Content::listed(code, data)));
+    }
+    plain_file(&items, Order::DirectoryFirst).bytes()
+}
+
+fn longs(random: &mut Random, count: usize) -> Vec<u8> {
+    let number = |_| (random.below(200_000) as i32 - 50_000).to_be_bytes();
+    (0..count).flat_map(number).collect()
+}
+
+fn raw_channels(random: &mut Random, lengths: [usize; 4]) -> Items {
+    (1..)
+        .zip(lengths)
+        .map(|(number, length)| (Tag::new(b"DATA", number), channel(random, length)))
+        .collect()
+}
+
+// Some values lie below nought.
+fn channel(random: &mut Random, length: usize) -> Content {
+    let value = |_| (random.below(1600) as i16 - 100).to_be_bytes();
+    Content::listed(4, (0..length).flat_map(value).collect())
+}
+
+// Bases over all of the longest channel, the last places past the end of one or of all.
+fn called(random: &mut Random, number: i32, lengths: [usize; 4]) -> Items {
+    let longest = lengths.into_iter().max().unwrap_or(0);
+    let mut places: Vec<i16> = (0..longest + 2 * SPACING)
+        .step_by(SPACING)
+        .map(|place| place as i16)
+        .collect();
+    places.extend([-1, 600, longest as i16 - 1, longest as i16]);
+    let letters: Vec<u8> = LETTERS.iter().copied().cycle().take(places.len()).collect();
+    let qualities = places.iter().map(|_| random.between(0, 60) as u8);
+    let mut qualities: Vec<u8> = qualities.collect();
+    qualities[1] = 0xFF;
+    let places = places.into_iter().flat_map(i16::to_be_bytes).collect();
+    vec![
+        (Tag::new(b"PBAS", number), Content::listed(2, letters)),
+        (Tag::new(b"PLOC", number), Content::listed(4, places)),
+        (Tag::new(b"PCON", number), Content::listed(2, qualities)),
+    ]
+}

@@ -1,0 +1,5 @@
+//! Pictures of ABIF files.
+
+pub mod check;
+mod contents;
+pub mod files;

@@ -1,0 +1,33 @@
+//! The test groups.
+
+mod broken_pictures;
+mod cuts;
+mod damaged;
+mod lines;
+mod options;
+mod rows;
+mod sanitized;
+mod shelf;
+pub mod stored;
+mod well_formed;
+
+use compare::report::Group;
+
+pub type Run = fn(&mut Group);
+
+pub const ALL: [(&str, Run); 14] = [
+    ("lines", lines::lines),
+    ("shelf", shelf::shelf),
+    ("stored", stored::compare),
+    ("options", options::options),
+    ("rows", rows::rows),
+    ("cuts ABIF", cuts::abif),
+    ("cuts SFF", cuts::sff),
+    ("cuts GTC", cuts::gtc),
+    ("damaged ABIF", damaged::abif),
+    ("damaged SFF", damaged::sff),
+    ("damaged GTC", damaged::gtc),
+    ("well-formed", well_formed::well_formed),
+    ("broken pictures", broken_pictures::broken_pictures),
+    ("sanitized", sanitized::sanitized),
+];

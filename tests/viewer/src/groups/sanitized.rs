@@ -1,0 +1,186 @@
+//! The sanitized program, which must do as the plain one does.
+
+use super::damaged::{abif_files, gtc_files, sff_files};
+use crate::drawing::{draw, Input, Wish, PLAIN};
+use crate::findings::Findings;
+use crate::program::{Output, Program};
+use crate::scratch::Scratch;
+use crate::verdict::Format;
+use crate::{abif, gtc, sff, workers};
+use compare::abif::generate::Order;
+use compare::abif::reader::open;
+use compare::report::Group;
+use compare::samples;
+use std::ffi::OsString;
+use std::os::unix::ffi::OsStringExt;
+use std::path::Path;
+
+const DAMAGED: usize = 60;
+const MOST_TAGS: usize = 32;
+const REPORTS: [&str; 3] = ["Sanitizer", "runtime error", "==ERROR"];
+const WISHES: [Wish; 6] = [
+    PLAIN,
+    Wish { raw: true, ..PLAIN },
+    read(0),
+    read(1),
+    read(3),
+    read(4_294_967_296),
+];
+
+const fn read(number: u64) -> Wish {
+    Wish {
+        raw: false,
+        read: Some(number),
+    }
+}
+
+pub fn sanitized(group: &mut Group) {
+    let program = Program::sanitized();
+    if !program.is_there() {
+        let message = || format!("no viewer at {}", program.path().display());
+        return group.check(false, &[], message);
+    }
+    let samples = samples::all().into_iter();
+    let samples: Vec<Input> = samples
+        .map(|(name, bytes)| Input::new(name, bytes))
+        .collect();
+    compare_all(group, &samples, true);
+    compare_all(group, &damaged(), false);
+    compare_all(group, &cuts(), false);
+}
+
+fn damaged() -> Vec<Input> {
+    let mut inputs = abif_files(DAMAGED);
+    inputs.extend(sff_files(DAMAGED));
+    inputs.extend(gtc_files(DAMAGED));
+    inputs
+}
+
+// Every cut of one small file of each format.
+fn cuts() -> Vec<Input> {
+    let run = abif::files::run([7, 5, 9, 6], Order::DirectoryFirst);
+    let files = [
+        run,
+        sff::files::runs().swap_remove(1),
+        gtc::files::files().swap_remove(3),
+    ];
+    let mut inputs = Vec::new();
+    for file in files {
+        for length in 0..=file.len() {
+            let name = format!("cut to {length} of {}", file.len());
+            inputs.push(Input::new(name, file[..length].to_vec()));
+        }
+    }
+    inputs
+}
+
+// Of many files not every command is run on each, but in turn.
+fn compare_all(group: &mut Group, inputs: &[Input], every_command: bool) {
+    let scratch = Scratch::new();
+    let findings = workers::each(inputs.len(), |worker, index| {
+        let file = scratch.write(format!("file-{worker}"), &inputs[index].bytes);
+        let both = Both {
+            picture: scratch.path(format!("picture-{worker}.svg")),
+            file,
+            findings: Findings::default(),
+        };
+        let turn = if every_command { None } else { Some(index) };
+        both.compare(&inputs[index].bytes, turn)
+    });
+    for (found, input) in findings.into_iter().zip(inputs) {
+        found.report(group, &input.name, &input.bytes);
+    }
+}
+
+/// The two programs at work on one file.
+struct Both {
+    file: std::path::PathBuf,
+    picture: std::path::PathBuf,
+    findings: Findings,
+}
+
+impl Both {
+    fn compare(mut self, bytes: &[u8], turn: Option<usize>) -> Findings {
+        let mut commands = self.commands(bytes);
+        let mut wishes = wishes(bytes);
+        if let Some(turn) = turn {
+            commands = vec![commands.swap_remove(turn % commands.len())];
+            wishes = vec![wishes[0], wishes[1 + turn % (wishes.len() - 1)]];
+        }
+        for arguments in commands {
+            self.compare_output(&arguments);
+        }
+        for wish in wishes {
+            self.compare_picture(wish);
+        }
+        self.findings
+    }
+
+    fn commands(&self, bytes: &[u8]) -> Vec<Vec<OsString>> {
+        let file = self.file.as_os_str();
+        let mut commands = vec![vec![file.into()], vec!["list".into(), file.into()]];
+        for (name, number) in tags(bytes) {
+            let name = OsString::from_vec(name.to_vec());
+            commands.push(vec![
+                "show".into(),
+                file.into(),
+                name,
+                number.to_string().into(),
+            ]);
+        }
+        commands
+    }
+
+    fn compare_output(&mut self, arguments: &[OsString]) {
+        let plain = Program::plain().run(arguments);
+        let sanitized = Program::sanitized().run(arguments);
+        self.check_reports(&sanitized, arguments);
+        self.findings.check(plain == sanitized, || {
+            format!("{arguments:?}: plain {plain:?}, sanitized {sanitized:?}")
+        });
+    }
+
+    fn compare_picture(&mut self, wish: Wish) {
+        let plain = draw(&Program::plain(), &self.file, &self.picture, wish);
+        let sanitized = draw(&Program::sanitized(), &self.file, &self.picture, wish);
+        self.check_reports(
+            &sanitized.output,
+            &wish.arguments(&self.file, Path::new("")),
+        );
+        self.findings
+            .check(plain == sanitized && plain.picture.is_some(), || {
+                format!(
+                    "{wish:?}: plain {:?}, sanitized {:?}",
+                    plain.output, sanitized.output
+                )
+            });
+    }
+
+    fn check_reports(&mut self, output: &Output, arguments: &[OsString]) {
+        let complaint = output.stderr_text();
+        let is_report = REPORTS.iter().any(|report| complaint.contains(report));
+        let is_ended = matches!(output.status, Some(0 | 1));
+        self.findings.check(is_ended && !is_report, || {
+            format!("{arguments:?}: status {:?}, {complaint}", output.status)
+        });
+    }
+}
+
+fn wishes(bytes: &[u8]) -> Vec<Wish> {
+    match Format::of(bytes) {
+        Format::Abif => WISHES[..2].to_vec(),
+        Format::Sff => WISHES.to_vec(),
+        _ => vec![PLAIN, Wish::read(0)],
+    }
+}
+
+// The tags of a directory, and some that are not there; an argument cannot have a zero in it.
+fn tags(bytes: &[u8]) -> Vec<([u8; 4], i32)> {
+    let mut tags = vec![(*b"DATA", 9), (*b"PBAS", -1), (*b"FWO_", 1)];
+    if let Ok(directory) = open(bytes) {
+        let entries = directory.entries(bytes).take(MOST_TAGS);
+        tags.extend(entries.map(|entry| (entry.tag.name.to_be_bytes(), entry.tag.number)));
+    }
+    tags.retain(|(name, _)| !name.contains(&0));
+    tags
+}

@@ -1,0 +1,5 @@
+//! Pictures of GTC files.
+
+pub mod check;
+pub mod files;
+mod places;

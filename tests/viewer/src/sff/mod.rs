@@ -1,0 +1,4 @@
+//! Pictures of SFF files.
+
+pub mod check;
+pub mod files;
