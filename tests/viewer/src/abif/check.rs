@@ -9,6 +9,11 @@ use crate::xml::Element;
 /// Half of the last decimal that a point has, and what floats lose.
 const ROUNDING: f64 = 0.050_001;
 
+/// How many times as wide as the values, with nought among them, a scale may be.
+const WIDEST_SCALE: f64 = 2.5;
+/// How wide a scale may be in any case.
+const SMALLEST_SCALE: f64 = 100.0;
+
 /// Checks all that the picture shows; tells whether a channel is refused.
 pub fn check(findings: &mut Findings, root: &Element, bytes: &[u8], raw: bool) -> bool {
     let contents = Contents::of(bytes, raw);
@@ -31,6 +36,7 @@ pub fn check(findings: &mut Findings, root: &Element, bytes: &[u8], raw: bool) -
     findings.check(count == 0, || {
         format!("{count} lines in rows that are no traces")
     });
+    check_scales(findings, &rows, &contents);
     let in_rows: usize = rows.iter().map(|row| traces(row).len()).sum();
     let lines = traces(root).len();
     findings.check(lines == in_rows, || {
@@ -177,6 +183,29 @@ impl Scale {
             }
         }
         None
+    }
+}
+
+// A scale that is much wider than the values would squeeze their traces flat; one that cuts the
+// few that lie far off is allowed.
+fn check_scales(findings: &mut Findings, rows: &[&Element], contents: &Contents) {
+    let drawn = contents.channels.iter();
+    let values = drawn
+        .filter_map(|channel| channel.values.as_ref().ok())
+        .flatten();
+    let bounds = values.fold((0, 0), |(least, most), &value| {
+        (value.min(least), value.max(most))
+    });
+    let span = (bounds.1 - bounds.0) as f64;
+    for scale in rows.iter().filter_map(|row| Scale::of(row)) {
+        let width = scale.top - scale.bottom;
+        let widest = SMALLEST_SCALE.max(WIDEST_SCALE * span);
+        findings.check(width <= widest, || {
+            format!(
+                "a scale from {} to {} for {bounds:?}",
+                scale.bottom, scale.top
+            )
+        });
     }
 }
 

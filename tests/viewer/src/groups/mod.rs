@@ -4,6 +4,8 @@ mod broken_pictures;
 mod cuts;
 mod damaged;
 mod lines;
+mod list_and_show;
+mod not_readable;
 mod options;
 mod rows;
 mod sanitized;
@@ -15,11 +17,13 @@ use compare::report::Group;
 
 pub type Run = fn(&mut Group);
 
-pub const ALL: [(&str, Run); 14] = [
+pub const ALL: [(&str, Run); 16] = [
     ("lines", lines::lines),
     ("shelf", shelf::shelf),
     ("stored", stored::compare),
     ("options", options::options),
+    ("not readable", not_readable::not_readable),
+    ("list and show", list_and_show::list_and_show),
     ("rows", rows::rows),
     ("cuts ABIF", cuts::abif),
     ("cuts SFF", cuts::sff),

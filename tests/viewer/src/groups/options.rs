@@ -4,6 +4,7 @@ use crate::program::{Output, Program};
 use crate::scratch::Scratch;
 use compare::report::Group;
 use std::fs;
+use std::os::unix::fs::symlink;
 
 const FILE: &str = "run.ab1";
 const PICTURE: &str = "picture.svg";
@@ -53,8 +54,11 @@ const WRONG: [&[&str]; 33] = [
 ];
 
 /// Pictures that cannot be written.
-const NOT_WRITTEN: [&[&str]; 5] = [
+const NOT_WRITTEN: [&[&str]; 8] = [
     &["draw", FILE, "-o", FILE],
+    &["draw", FILE, "-o", "soft.ab1"],
+    &["draw", "soft.ab1", "-o", FILE],
+    &["draw", FILE, "-o", ""],
     &["draw", FILE, "-o", "./run.ab1"],
     &["draw", FILE, "-o", "link.ab1"],
     &["draw", FILE, "-o", "no such folder/picture.svg"],
@@ -78,6 +82,7 @@ pub fn options(group: &mut Group) {
     scratch.write(FILE, &bytes);
     fs::create_dir(scratch.path("folder")).expect("a new folder");
     fs::hard_link(scratch.path(FILE), scratch.path("link.ab1")).expect("a new link");
+    symlink(FILE, scratch.path("soft.ab1")).expect("a new link");
     for arguments in WRONG {
         let output = refused(group, &scratch, &bytes, arguments);
         let complaint = output.stderr_text();
@@ -107,7 +112,7 @@ fn refused(group: &mut Group, scratch: &Scratch, bytes: &[u8], arguments: &[&str
     let mut names: Vec<_> =
         fs::read_dir(scratch.folder()).map_or(Vec::new(), |entries| entries.flatten().collect());
     names.retain(|entry| {
-        !["folder", FILE, "link.ab1"]
+        !["folder", FILE, "link.ab1", "soft.ab1"]
             .iter()
             .any(|it| entry.file_name() == *it)
     });

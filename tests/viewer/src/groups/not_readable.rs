@@ -1,0 +1,106 @@
+//! Files and folders that may not be read, and outputs that cannot be written.
+
+use crate::program::{output, Program};
+use crate::scratch::Scratch;
+use compare::report::Group;
+use std::fs::{self, File, Permissions};
+use std::os::unix::fs::PermissionsExt;
+use std::path::Path;
+use std::process::Command;
+
+/// How the superuser, who may read everything, becomes nobody.
+const AS_NOBODY: [&str; 6] = [
+    "setpriv",
+    "--reuid=65534",
+    "--regid=65534",
+    "--clear-groups",
+    "--",
+    "timeout",
+];
+const AS_IS: [&str; 1] = ["timeout"];
+const SECONDS: &str = "10";
+
+pub fn not_readable(group: &mut Group) {
+    let scratch = Scratch::new();
+    fill(&scratch);
+    closed_to_the_program(group, &scratch);
+    for arguments in [&["a.sff"][..], &["list", "a.sff"], &["."]] {
+        full_output(group, scratch.folder(), arguments);
+    }
+    full_output(
+        group,
+        scratch.folder(),
+        &["draw", "a.sff", "-o", "/dev/full"],
+    );
+    let permissions = Permissions::from_mode(0o755);
+    // The folder is removed with the others only where it may be read again.
+    let _ = fs::set_permissions(scratch.path("closed"), permissions);
+}
+
+fn fill(scratch: &Scratch) {
+    let bytes = compare::sff::samples::one_read();
+    fs::create_dir(scratch.path("closed")).expect("a new folder");
+    for name in ["a.sff", "b.sff", "closed/c.sff", "d.sff"] {
+        scratch.write(name, &bytes);
+    }
+    for (name, mode) in [("b.sff", 0o000), ("closed", 0o000), ("", 0o755)] {
+        let permissions = Permissions::from_mode(mode);
+        fs::set_permissions(scratch.path(name), permissions).expect("other permissions");
+    }
+}
+
+// The rest of the shelf is judged, and both are counted.
+fn closed_to_the_program(group: &mut Group, scratch: &Scratch) {
+    let is_superuser = fs::read(scratch.path("b.sff")).is_ok();
+    let before = if is_superuser { &AS_NOBODY[..] } else { &AS_IS };
+    let mut command = Command::new(before[0]);
+    command
+        .current_dir(scratch.folder())
+        .args(&before[1..])
+        .arg(SECONDS);
+    command
+        .arg(Program::plain().path())
+        .args(["a.sff", "closed", "."]);
+    group.input();
+    let Ok(output) = output(command) else {
+        return group.check(false, &[], || "the program does not run".to_string());
+    };
+    let expected = "a.sff: SFF whole 88 of 88\n\
+                    ./a.sff: SFF whole 88 of 88\n\
+                    ./d.sff: SFF whole 88 of 88\n\
+                    6 files: 3 whole, 0 refused, 0 unknown, 3 not readable\n";
+    let printed = output.stdout_text();
+    group.check(printed == expected, &[], || format!("printed {printed:?}"));
+    group.check(output.status == Some(2), &[], || {
+        format!("status {:?}", output.status)
+    });
+    let complaint = output.stderr_text();
+    let starts = [
+        "jtview: closed: ",
+        "jtview: ./b.sff: ",
+        "jtview: ./closed: ",
+    ];
+    let fits = complaint.lines().count() == starts.len()
+        && complaint
+            .lines()
+            .zip(starts)
+            .all(|(line, start)| line.starts_with(start));
+    group.check(fits, &[], || format!("complained {complaint:?}"));
+}
+
+// An output that is lost is no success.
+fn full_output(group: &mut Group, folder: &Path, arguments: &[&str]) {
+    let Ok(full) = File::options().write(true).open("/dev/full") else {
+        return;
+    };
+    let status = Command::new(Program::plain().path())
+        .current_dir(folder)
+        .args(arguments)
+        .stdout(full)
+        .output()
+        .map(|output| output.status.code());
+    group.input();
+    group.check(matches!(status, Ok(Some(2))), &[], || {
+        format!("{arguments:?} with a full output: {status:?}")
+    });
+}
