@@ -19,6 +19,7 @@ pub fn runs() -> Vec<Vec<u8>> {
         run([620, 700, 60, 601], Order::DirectoryFirst),
         raw_run(Order::DirectoryFirst),
         second_calls(),
+        wide_calls(),
     ]
 }
 
@@ -63,6 +64,25 @@ fn second_calls() -> Vec<u8> {
             _ => random.bytes(80),
         };
         items.push((Tag::new(b"DATA", number), Content::listed(code, data)));
+    }
+    plain_file(&items, Order::DirectoryFirst).bytes()
+}
+
+// Letters, places and qualities of 32 bits, some of which look like others by their lowest bits.
+fn wide_calls() -> Vec<u8> {
+    let mut random = Random::new(75);
+    let letters = [65, 321, -191, 65_601, 71, 84, 67, 97, i32::MIN, i32::MAX];
+    let places = [3, 6, 9, 12, 15, 39, 40, 65_536, i32::MAX, i32::MIN];
+    let qualities = [0, 60, 61, 100_000, i32::MAX, -1, i32::MIN, 256, 1, 2];
+    let item = |name, numbers: [i32; 10]| {
+        let data = numbers.into_iter().flat_map(i32::to_be_bytes).collect();
+        (Tag::new(name, 1), Content::listed(5, data))
+    };
+    let mut items = vec![item(b"PBAS", letters), item(b"PLOC", places)];
+    items.push(item(b"PCON", qualities));
+    items.push((Tag::new(b"FWO_", 1), Content::listed(2, b"CATG".to_vec())));
+    for number in 9..=12 {
+        items.push((Tag::new(b"DATA", number), channel(&mut random, 40)));
     }
     plain_file(&items, Order::DirectoryFirst).bytes()
 }
