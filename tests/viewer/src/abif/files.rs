@@ -35,6 +35,18 @@ pub fn run(lengths: [usize; 4], order: Order) -> Vec<u8> {
     plain_file(&items, order).bytes()
 }
 
+/// A run whose base order is this item.
+pub fn ordered(order: Content) -> Vec<u8> {
+    let mut random = Random::new(76);
+    let lengths = [21, 30, 27, 24];
+    let mut items = called(&mut random, 1, lengths);
+    items.push((Tag::new(b"FWO_", 1), order));
+    for (number, length) in (9..).zip(lengths) {
+        items.push((Tag::new(b"DATA", number), channel(&mut random, length)));
+    }
+    plain_file(&items, Order::DirectoryLast).bytes()
+}
+
 /// A run of four channels of the same length, and nothing else.
 pub fn channels(length: usize) -> Vec<u8> {
     let mut random = Random::new(72);

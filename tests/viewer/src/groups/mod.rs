@@ -7,6 +7,7 @@ mod lines;
 mod list_and_show;
 mod not_readable;
 mod options;
+mod orders;
 mod rows;
 mod sanitized;
 mod shelf;
@@ -17,7 +18,7 @@ use compare::report::Group;
 
 pub type Run = fn(&mut Group);
 
-pub const ALL: [(&str, Run); 16] = [
+pub const ALL: [(&str, Run); 17] = [
     ("lines", lines::lines),
     ("shelf", shelf::shelf),
     ("stored", stored::compare),
@@ -25,6 +26,7 @@ pub const ALL: [(&str, Run); 16] = [
     ("not readable", not_readable::not_readable),
     ("list and show", list_and_show::list_and_show),
     ("rows", rows::rows),
+    ("orders", orders::orders),
     ("cuts ABIF", cuts::abif),
     ("cuts SFF", cuts::sff),
     ("cuts GTC", cuts::gtc),
