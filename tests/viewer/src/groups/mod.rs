@@ -5,6 +5,7 @@ mod cuts;
 mod damaged;
 mod lines;
 mod list_and_show;
+mod long_files;
 mod not_readable;
 mod options;
 mod orders;
@@ -18,7 +19,7 @@ use compare::report::Group;
 
 pub type Run = fn(&mut Group);
 
-pub const ALL: [(&str, Run); 17] = [
+pub const ALL: [(&str, Run); 18] = [
     ("lines", lines::lines),
     ("shelf", shelf::shelf),
     ("stored", stored::compare),
@@ -27,6 +28,7 @@ pub const ALL: [(&str, Run); 17] = [
     ("list and show", list_and_show::list_and_show),
     ("rows", rows::rows),
     ("orders", orders::orders),
+    ("long files", long_files::long_files),
     ("cuts ABIF", cuts::abif),
     ("cuts SFF", cuts::sff),
     ("cuts GTC", cuts::gtc),

@@ -20,8 +20,8 @@ pub fn snps(codes: &[u8]) -> Vec<Snp> {
         code,
         calls: *b"AG",
         score_bits: 0x3F00_0000,
-        x: 1000 * index as u16 + 17,
-        y: 9000 - 700 * index as u16,
+        x: 1000 * (index % 60) as u16 + 17,
+        y: 9000 - 700 * (index % 12) as u16,
     };
     codes.iter().enumerate().map(snp).collect()
 }
