@@ -37,6 +37,7 @@ pub fn check(findings: &mut Findings, root: &Element, bytes: &[u8], raw: bool) -
         format!("{count} lines in rows that are no traces")
     });
     check_scales(findings, &rows, &contents);
+    check_off_scale(findings, &rows, &contents);
     let in_rows: usize = rows.iter().map(|row| traces(row).len()).sum();
     let lines = traces(root).len();
     findings.check(lines == in_rows, || {
@@ -205,6 +206,33 @@ fn check_scales(findings: &mut Findings, rows: &[&Element], contents: &Contents)
                 "a scale from {} to {} for {bounds:?}",
                 scale.bottom, scale.top
             )
+        });
+    }
+}
+
+// A row tells the highest and the lowest of its values that leave the scale.
+fn check_off_scale(findings: &mut Findings, rows: &[&Element], contents: &Contents) {
+    for (index, row) in rows.iter().enumerate() {
+        let points = contents.channels.iter();
+        let points = points.flat_map(|channel| points_in_row(channel, index));
+        let values: Vec<i64> = points.map(|(_, value)| value).collect();
+        let scale = Scale::of(row);
+        let above = |value: &&i64| scale.as_ref().is_some_and(|it| **value as f64 > it.top);
+        let below = |value: &&i64| {
+            scale
+                .as_ref()
+                .is_some_and(|it| (**value as f64) < it.bottom)
+        };
+        let highest = values.iter().max().filter(above).map(|value| ('▲', value));
+        let lowest = values.iter().min().filter(below).map(|value| ('▼', value));
+        let told = highest.into_iter().chain(lowest);
+        let told: Vec<String> = told
+            .map(|(sign, value)| format!("{sign} {value}"))
+            .collect();
+        let found = of_class(row, "off-scale").into_iter();
+        let found: Vec<String> = found.map(|it| it.text.replace(',', "")).collect();
+        findings.check(found == told, || {
+            format!("row {index} tells {found:?} of what leaves its scale, not {told:?}")
         });
     }
 }

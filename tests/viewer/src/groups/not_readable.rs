@@ -27,11 +27,7 @@ pub fn not_readable(group: &mut Group) {
     for arguments in [&["a.sff"][..], &["list", "a.sff"], &["."]] {
         full_output(group, scratch.folder(), arguments);
     }
-    full_output(
-        group,
-        scratch.folder(),
-        &["draw", "a.sff", "-o", "/dev/full"],
-    );
+    unfinished_picture(group, scratch.folder());
     let permissions = Permissions::from_mode(0o755);
     // The folder is removed with the others only where it may be read again.
     let _ = fs::set_permissions(scratch.path("closed"), permissions);
@@ -86,6 +82,26 @@ fn closed_to_the_program(group: &mut Group, scratch: &Scratch) {
             .zip(starts)
             .all(|(line, start)| line.starts_with(start));
     group.check(fits, &[], || format!("complained {complaint:?}"));
+}
+
+// A picture that cannot be written to its end is no success, and is not left behind.
+fn unfinished_picture(group: &mut Group, folder: &Path) {
+    let mut command = Command::new("sh");
+    command
+        .current_dir(folder)
+        .env("JTVIEW", Program::plain().path());
+    let limited = "trap '' XFSZ; ulimit -f 1; exec \"$JTVIEW\" draw a.sff -o picture.svg";
+    command.args(["-c", limited]);
+    group.input();
+    let output = output(command);
+    let is_refused = matches!(&output, Ok(output) if output.status == Some(2));
+    group.check(is_refused, &[], || {
+        format!("an unfinished picture: {output:?}")
+    });
+    let is_left = folder.join("picture.svg").exists();
+    group.check(!is_left, &[], || {
+        "the unfinished picture is left".to_string()
+    });
 }
 
 // An output that is lost is no success.
