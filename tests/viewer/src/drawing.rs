@@ -25,13 +25,15 @@ pub const PLAIN: Wish = Wish {
 };
 
 impl Wish {
-    pub fn raw() -> Wish {
+    pub const fn raw() -> Wish {
         Wish { raw: true, ..PLAIN }
     }
 
-    pub fn read(number: u64) -> Wish {
-        let read = Some(number);
-        Wish { read, ..PLAIN }
+    pub const fn read(number: u64) -> Wish {
+        Wish {
+            read: Some(number),
+            ..PLAIN
+        }
     }
 
     pub fn arguments(&self, file: &Path, picture: &Path) -> Vec<OsString> {

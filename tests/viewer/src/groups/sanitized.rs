@@ -13,26 +13,19 @@ use compare::report::Group;
 use compare::samples;
 use std::ffi::OsString;
 use std::os::unix::ffi::OsStringExt;
-use std::path::Path;
+use std::path::{Path, PathBuf};
 
 const DAMAGED: usize = 60;
 const MOST_TAGS: usize = 32;
 const REPORTS: [&str; 3] = ["Sanitizer", "runtime error", "==ERROR"];
 const WISHES: [Wish; 6] = [
     PLAIN,
-    Wish { raw: true, ..PLAIN },
-    read(0),
-    read(1),
-    read(3),
-    read(4_294_967_296),
+    Wish::raw(),
+    Wish::read(0),
+    Wish::read(1),
+    Wish::read(3),
+    Wish::read(4_294_967_296),
 ];
-
-const fn read(number: u64) -> Wish {
-    Wish {
-        raw: false,
-        read: Some(number),
-    }
-}
 
 pub fn sanitized(group: &mut Group) {
     let program = Program::sanitized();
@@ -94,8 +87,8 @@ fn compare_all(group: &mut Group, inputs: &[Input], every_command: bool) {
 
 /// The two programs at work on one file.
 struct Both {
-    file: std::path::PathBuf,
-    picture: std::path::PathBuf,
+    file: PathBuf,
+    picture: PathBuf,
     findings: Findings,
 }
 
