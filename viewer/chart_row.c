@@ -128,7 +128,8 @@ static void draw_traces(struct chart *chart, uint64_t first) {
 
 static void draw_letter(struct chart *chart, uint64_t base, uint64_t x) {
     struct svg *svg = &chart->picture->svg;
-    uint8_t letter = (uint8_t)chart->run->letters.values[base - 1];
+    int64_t value = chart->run->letters.values[base - 1];
+    uint8_t letter = value >= 0 && value <= UINT8_MAX ? (uint8_t)value : 0;
     svg_markup(svg, "<text class=\"letter\" data-base=\"");
     svg_number(svg, (int64_t)base);
     svg_markup(svg, "\" data-at=\"");

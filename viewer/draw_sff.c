@@ -215,6 +215,7 @@ static void draw_legend(struct flowgram *flowgram, int y) {
     }
     svg_format(svg, "<rect x=\"240\" y=\"%d\" width=\"30\" height=\"14\" fill=\"#d8d8d8\"/>", y + 12);
     svg_format(svg, "<text x=\"278\" y=\"%d\">clipped</text>\n", y + 24);
+    draw_file_refused(flowgram->picture, PICTURE_WIDTH - PICTURE_MARGIN, y);
 }
 
 /* The header and the read, each as a hatched box where its own call refuses it. */

@@ -6,13 +6,13 @@
 #include <inttypes.h>
 #include <string.h>
 
-enum { TITLE_HEIGHT = 70, BANNER_HEIGHT = 158, TEXT_WIDTH = 8 };
+enum { TITLE_HEIGHT = 70, BANNER_HEIGHT = 158, TEXT_WIDTH = 7 };
 
 static const char STYLE[] =
     "<style>text{font-family:sans-serif;font-size:13px}"
     ".title{font-size:22px;font-weight:bold}.facts{font-size:15px}"
     ".verdict{font-size:56px;font-weight:bold;fill:#fff}.meaning,.entry{font-size:22px;fill:#fff}"
-    ".hint{font-size:15px;fill:#fff}.box{font-weight:bold}.file-refused{font-weight:bold}"
+    ".hint{font-size:15px;fill:#fff}.box{font-size:12px;font-weight:bold}.file-refused{font-weight:bold}"
     ".letter{font-family:monospace;font-size:15px;font-weight:bold;text-anchor:middle}"
     ".clipped{fill:#777}rect.clipped{fill:#d8d8d8}"
     ".small{font-size:11px;fill:#444}.middle{text-anchor:middle}.end{text-anchor:end}"
