@@ -1,12 +1,38 @@
 //! Counts of a test group and the messages for its first mismatches.
 
 use std::fmt::Write;
+use std::process::ExitCode;
 use std::time::{Duration, Instant};
 use std::{env, fs, process};
 
 const SHOWN_MISMATCHES: u64 = 3;
 const MOST_BYTES_SHOWN: usize = 512;
 const MOST_LETTERS_SHOWN: usize = 2000;
+
+/// What a test group does.
+pub type Run = fn(&mut Group);
+
+/// Runs the groups whose names begin so, and prints the closing line.
+pub fn run_groups(groups: &[(&'static str, Run)], beginning: &str) -> ExitCode {
+    let mut passed = 0;
+    let mut failed = 0;
+    let chosen = groups.iter();
+    for (name, run) in chosen.filter(|(name, _)| name.starts_with(beginning)) {
+        let mut group = Group::new(name);
+        run(&mut group);
+        if group.finish() {
+            passed += 1;
+        } else {
+            failed += 1;
+        }
+    }
+    println!("{passed} passed, {failed} failed");
+    if failed == 0 {
+        ExitCode::SUCCESS
+    } else {
+        ExitCode::FAILURE
+    }
+}
 
 pub struct Group {
     name: &'static str,

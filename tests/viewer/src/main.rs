@@ -14,7 +14,7 @@ mod verdict;
 mod workers;
 mod xml;
 
-use compare::report::Group;
+use compare::report::run_groups;
 use program::Program;
 use std::env;
 use std::process::ExitCode;
@@ -27,34 +27,13 @@ fn main() -> ExitCode {
         return ExitCode::from(2);
     }
     match arguments.as_slice() {
-        [] => run_groups(""),
-        [command, beginning] if command == "groups" => run_groups(beginning),
+        [] => run_groups(&groups::ALL, ""),
+        [command, beginning] if command == "groups" => run_groups(&groups::ALL, beginning),
         [command] if command == "store" => store(),
         _ => {
             eprintln!("usage: viewer [groups BEGINNING | store]");
             ExitCode::from(2)
         }
-    }
-}
-
-fn run_groups(beginning: &str) -> ExitCode {
-    let mut passed = 0;
-    let mut failed = 0;
-    let chosen = groups::ALL.into_iter();
-    for (name, run) in chosen.filter(|(name, _)| name.starts_with(beginning)) {
-        let mut group = Group::new(name);
-        run(&mut group);
-        if group.finish() {
-            passed += 1;
-        } else {
-            failed += 1;
-        }
-    }
-    println!("{passed} passed, {failed} failed");
-    if failed == 0 {
-        ExitCode::SUCCESS
-    } else {
-        ExitCode::FAILURE
     }
 }
 

@@ -6,10 +6,8 @@ mod program_lines;
 pub mod whole;
 
 use crate::format::{Format, Question};
-use crate::report::Group;
+use crate::report::{Group, Run};
 use crate::{abif, gtc, sff};
-
-pub type Run = fn(&mut Group);
 
 pub fn all() -> Vec<(&'static str, Run)> {
     let program: (&str, Run) = ("program lines", program_lines::lines);

@@ -15,9 +15,7 @@ mod shelf;
 pub mod stored;
 mod well_formed;
 
-use compare::report::Group;
-
-pub type Run = fn(&mut Group);
+use compare::report::Run;
 
 pub const ALL: [(&str, Run); 18] = [
     ("lines", lines::lines),

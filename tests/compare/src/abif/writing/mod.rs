@@ -13,9 +13,9 @@ mod read_back;
 use super::library;
 use super::writer::{self, Lent};
 use crate::answers::Finished;
-use crate::groups::Run;
 use crate::output::Output;
 use crate::report::Group;
+use crate::report::Run;
 use list::List;
 
 pub const GROUPS: [(&str, Run); 19] = [

@@ -12,7 +12,7 @@ mod read_back;
 mod session;
 mod states;
 
-use crate::groups::Run;
+use crate::report::Run;
 
 pub const GROUPS: [(&str, Run); 18] = [
     ("SFF writing published samples", bounds::published),
