@@ -6,13 +6,6 @@
 #include <stdlib.h>
 #include <sys/stat.h>
 
-static enum status fail(const char *path, const char *reason) {
-    fputs("jtview: ", stderr);
-    print_path(stderr, path);
-    fprintf(stderr, ": %s\n", reason);
-    return STATUS_UNREADABLE;
-}
-
 static bool draw_unknown(struct picture *picture) {
     picture_begin(picture, picture_head_height(picture));
     picture_end(picture);
@@ -39,7 +32,8 @@ static bool is_same_file(const struct file *file, const char *path) {
 
 enum status draw_file(const struct file *file, const struct draw_options *options) {
     if (is_same_file(file, options->output)) {
-        return fail(options->output, "the picture would take the place of its own file");
+        tell_failure(options->output, "the picture would take the place of its own file");
+        return STATUS_UNREADABLE;
     }
     struct picture *picture = take(1, sizeof *picture);
     picture->file = file;
@@ -52,7 +46,8 @@ enum status draw_file(const struct file *file, const struct draw_options *option
     }
     free(picture);
     if (failure != NULL) {
-        return fail(options->output, failure);
+        tell_failure(options->output, failure);
+        return STATUS_UNREADABLE;
     }
     print_line(file, &judgement);
     return answered ? status_of(&judgement) : STATUS_REFUSED;

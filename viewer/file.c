@@ -1,15 +1,15 @@
 #include "file.h"
 
+#include "bytes.h"
+
 #include <errno.h>
 #include <fcntl.h>
 #include <string.h>
-#include <sys/mman.h>
 #include <sys/stat.h>
 #include <unistd.h>
 
-/* Maps the file behind the descriptor; without waiting for a pipe that nobody writes to, it was opened with O_NONBLOCK.
- */
-static const char *map(struct file *file, int descriptor) {
+/* The file behind the descriptor, which was opened with O_NONBLOCK: a pipe that nobody writes to is not waited for. */
+static const char *take_file(struct file *file, int descriptor) {
     struct stat state;
     if (fstat(descriptor, &state) != 0) {
         return strerror(errno);
@@ -23,12 +23,8 @@ static const char *map(struct file *file, int descriptor) {
     if (file->length == 0) {
         return NULL;
     }
-    void *bytes = mmap(NULL, file->length, PROT_READ, MAP_PRIVATE, descriptor, 0);
-    if (bytes == MAP_FAILED) {
-        return strerror(errno);
-    }
-    file->bytes = bytes;
-    return NULL;
+    file->bytes = bytes_take(descriptor, file->length);
+    return file->bytes == NULL ? strerror(errno) : NULL;
 }
 
 const char *file_open(struct file *file, const char *path) {
@@ -37,14 +33,14 @@ const char *file_open(struct file *file, const char *path) {
     if (descriptor < 0) {
         return strerror(errno);
     }
-    const char *reason = map(file, descriptor);
+    const char *reason = take_file(file, descriptor);
     close(descriptor);
     return reason;
 }
 
 void file_close(struct file *file) {
     if (file->bytes != NULL) {
-        munmap((void *)file->bytes, file->length);
+        bytes_release(file->bytes, file->length);
     }
     *file = (struct file){.path = file->path};
 }

@@ -8,7 +8,7 @@ enum { MOST_ENTRIES = 999, MOST_INLINE_BYTES = 4 };
 /* The entry as it stands, and what looking it up is refused with. */
 static bool print_entry(const struct file *file, const jt_entry *entry) {
     jt_item item = jt_abif_lookup(file->bytes, file->length, entry->name, entry->number);
-    print_tag_name(stdout, entry->name);
+    print_tag_name(entry->name);
     printf(" %11" PRId32 "  %5d %-9s %11" PRId32 " %11" PRId32 "  ", entry->number, entry->type,
            abif_type_name(entry->type), entry->count, entry->data_size);
     if (entry->data_size <= MOST_INLINE_BYTES) {
@@ -17,7 +17,8 @@ static bool print_entry(const struct file *file, const jt_entry *entry) {
         printf("at %" PRId32, entry->data_offset);
     }
     if (item.refusal != 0) {
-        printf("  refused %" PRIu64 ": %s", item.refusal, refusal_meaning(item.refusal));
+        printf("  ");
+        print_refusal(item.refusal);
     }
     putchar('\n');
     return item.refusal == 0;
@@ -27,7 +28,7 @@ bool list_abif(const struct file *file) {
     jt_entry entries[MOST_ENTRIES];
     jt_listed listed = jt_abif_list(file->bytes, file->length, entries, MOST_ENTRIES);
     if (listed.refusal != 0) {
-        printf("directory refused %" PRIu64 ": %s\n", listed.refusal, refusal_meaning(listed.refusal));
+        print_refused("directory", listed.refusal);
         return false;
     }
     printf("%-4s %11s  %-15s %11s %11s  %s\n", "tag", "number", " type", "count", "size", "place");

@@ -15,7 +15,7 @@ static void print_value(const struct file *file, const struct gtc_row *row, cons
         break;
     case GTC_TEXT:
         printf("  ");
-        print_bytes(stdout, file->bytes + item->start, item->length);
+        print_bytes(file->bytes + item->start, item->length);
         break;
     case GTC_ARRAY:
         printf("  count %" PRIu64 ", %" PRIu64 " bytes at %" PRIu64, item->count, item->length, item->start);
@@ -38,7 +38,8 @@ static bool print_entry(const struct file *file, uint16_t id) {
     if (item.refusal == 0) {
         print_value(file, row, &item);
     } else {
-        printf("  refused %" PRIu64 ": %s", item.refusal, refusal_meaning(item.refusal));
+        printf("  ");
+        print_refusal(item.refusal);
     }
     putchar('\n');
     return item.refusal == 0;
@@ -47,7 +48,7 @@ static bool print_entry(const struct file *file, uint16_t id) {
 bool list_gtc(const struct file *file) {
     uint64_t refusal = gtc_table_refusal(file);
     if (refusal != 0) {
-        printf("table of contents refused %" PRIu64 ": %s\n", refusal, refusal_meaning(refusal));
+        print_refused("table of contents", refusal);
         return false;
     }
     printf("%5s  %-29s  %-10s  %s\n", "id", "name", "type", "value, or count and place");

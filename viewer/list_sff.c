@@ -5,11 +5,9 @@
 #include <inttypes.h>
 #include <stdlib.h>
 
-enum { FORBIDDEN_VALUE = 11 };
-
 static void print_header(const struct file *file, const struct jt_sff_header *header) {
     printf("reads %" PRIu64 ", flows %" PRIu64 ", key ", header->reads, header->flows);
-    print_bytes(stdout, file->bytes + header->key_start, header->key_length);
+    print_bytes(file->bytes + header->key_start, header->key_length);
     printf(", header of %" PRIu64 " bytes, ", header->header_length);
     if (header->index_length == 0) {
         printf("no index\n");
@@ -17,12 +15,8 @@ static void print_header(const struct file *file, const struct jt_sff_header *he
         printf("index of %" PRIu64 " bytes at %" PRIu64 "\n", header->index_length, header->index_offset);
     }
     printf("flow letters ");
-    print_bytes(stdout, file->bytes + header->flow_letters_start, header->flows);
+    print_bytes(file->bytes + header->flow_letters_start, header->flows);
     putchar('\n');
-}
-
-static void print_refused_read(uint64_t k, uint64_t refusal) {
-    printf("%8" PRIu64 "  refused %" PRIu64 ": %s\n", k, refusal, refusal_meaning(refusal));
 }
 
 static void print_clips(uint64_t left, uint64_t right) {
@@ -31,7 +25,9 @@ static void print_clips(uint64_t left, uint64_t right) {
 
 static void print_read(const struct file *file, uint64_t k, const struct jt_sff_read *read) {
     if (read->refusal != 0) {
-        print_refused_read(k, read->refusal);
+        printf("%8" PRIu64 "  ", k);
+        print_refusal(read->refusal);
+        putchar('\n');
         return;
     }
     printf("%8" PRIu64 "  %7" PRIu64, k, read->bases);
@@ -39,7 +35,7 @@ static void print_read(const struct file *file, uint64_t k, const struct jt_sff_
     print_clips(read->adapter_left, read->adapter_right);
     print_clips(read->first, read->last);
     printf("  ");
-    print_bytes(stdout, file->bytes + read->name_start, read->name_length);
+    print_bytes(file->bytes + read->name_start, read->name_length);
     putchar('\n');
 }
 
@@ -82,7 +78,7 @@ static void list_until_refused(const struct file *file, const struct jt_sff_head
 bool list_sff(const struct file *file, bool whole) {
     struct jt_sff_header header = jt_sff_header(file->bytes, file->length);
     if (header.refusal != 0) {
-        printf("header refused %" PRIu64 ": %s\n", header.refusal, refusal_meaning(header.refusal));
+        print_refused("header", header.refusal);
         return false;
     }
     print_header(file, &header);

@@ -35,9 +35,7 @@ static void end_of_a_cut_file(int signal) {
 static bool open_or_tell(struct file *file, const char *path) {
     const char *reason = file_open(file, path);
     if (reason != NULL) {
-        fputs("jtview: ", stderr);
-        print_path(stderr, path);
-        fprintf(stderr, ": %s\n", reason);
+        tell_failure(path, reason);
     }
     return reason == NULL;
 }

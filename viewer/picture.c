@@ -70,10 +70,9 @@ static void draw_tag(struct picture *picture, uint64_t entry) {
     jt_entry entries[MOST_ENTRIES];
     jt_listed listed = jt_abif_list(file->bytes, file->length, entries, MOST_ENTRIES);
     if (listed.refusal == 0 && entry <= listed.count) {
-        uint32_t name = entries[entry - 1].name;
-        uint8_t bytes[] = {(uint8_t)(name >> 24), (uint8_t)(name >> 16), (uint8_t)(name >> 8), (uint8_t)name};
+        struct tag_letters letters = tag_letters(entries[entry - 1].name);
         svg_markup(&picture->svg, ": ");
-        svg_bytes(&picture->svg, bytes, sizeof bytes);
+        svg_bytes(&picture->svg, letters.bytes, sizeof letters.bytes);
         svg_format(&picture->svg, " %" PRId32, entries[entry - 1].number);
     }
 }

@@ -2,13 +2,14 @@
 
 #include "jintarueng.h"
 #include "memory.h"
+#include "words.h"
 
 #include <inttypes.h>
 #include <stdio.h>
 #include <stdlib.h>
 #include <string.h>
 
-enum { NO_SUCH_TAG = 7, FIRST_ANALYSED = 9, FIRST_RAW = 1 };
+enum { FIRST_ANALYSED = 9, FIRST_RAW = 1 };
 
 static uint32_t tag_name(const char *letters) {
     const unsigned char *bytes = (const unsigned char *)letters;

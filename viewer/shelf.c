@@ -41,9 +41,7 @@ static void erase_progress(const struct shelf *shelf) {
 
 static void report_unreadable(struct shelf *shelf, const char *path, const char *reason) {
     erase_progress(shelf);
-    fputs("jtview: ", stderr);
-    print_path(stderr, path);
-    fprintf(stderr, ": %s\n", reason);
+    tell_failure(path, reason);
     shelf->unreadable++;
     show_progress(shelf);
 }

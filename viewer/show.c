@@ -7,7 +7,7 @@
 #include <inttypes.h>
 #include <stdlib.h>
 
-enum { TYPE_CHAR = 2, TYPE_P_STRING = 18, TYPE_C_STRING = 19, NOT_HANDLED = 10 };
+enum { TYPE_CHAR = 2, TYPE_P_STRING = 18, TYPE_C_STRING = 19 };
 enum { MOST_INLINE_BYTES = 4, NUMBERS_A_LINE = 10, BYTES_A_LINE = 16, LETTERS_A_LINE = 60 };
 
 /* The item that is shown, and the tag that it was asked for by. */
@@ -18,13 +18,9 @@ struct shown {
     jt_item item;
 };
 
-static void print_refusal(const char *what, uint64_t refusal) {
-    printf("%s refused %" PRIu64 ": %s\n", what, refusal, refusal_meaning(refusal));
-}
-
 static void print_item(const struct shown *shown) {
     const jt_item *item = &shown->item;
-    print_tag_name(stdout, shown->name);
+    print_tag_name(shown->name);
     printf(" %" PRId32 " type %" PRIu64 " %s count %" PRIu64 " size %" PRIu64, shown->number, item->type,
            abif_type_name((int64_t)item->type), item->count, item->length);
     if (item->length <= MOST_INLINE_BYTES) {
@@ -45,10 +41,10 @@ static bool show_text(const struct shown *shown) {
     const struct file *file = shown->file;
     jt_part text = jt_abif_text(file->bytes, file->length, shown->name, shown->number);
     if (text.refusal != 0) {
-        print_refusal("text", text.refusal);
+        print_refused("text", text.refusal);
         return false;
     }
-    print_bytes(stdout, file->bytes + text.start, text.length);
+    print_bytes(file->bytes + text.start, text.length);
     putchar('\n');
     return true;
 }
@@ -137,7 +133,7 @@ static bool show_elements(const struct shown *shown) {
         if (element.refusal == 0) {
             print_element(&element);
         } else {
-            printf("refused %" PRIu64 ": %s", element.refusal, refusal_meaning(element.refusal));
+            print_refusal(element.refusal);
             answered = false;
         }
         putchar('\n');
@@ -147,7 +143,7 @@ static bool show_elements(const struct shown *shown) {
 
 static bool is_raw(const struct shown *shown) {
     const struct file *file = shown->file;
-    return jt_abif_element(file->bytes, file->length, shown->name, shown->number, 1).refusal == NOT_HANDLED;
+    return jt_abif_element(file->bytes, file->length, shown->name, shown->number, 1).refusal == TYPE_NOT_HANDLED;
 }
 
 static bool show_data(const struct shown *shown) {
@@ -175,7 +171,7 @@ enum status show_item(const struct file *file, uint32_t name, int32_t number) {
     struct shown shown = {.file = file, .name = name, .number = number};
     shown.item = jt_abif_lookup(file->bytes, file->length, name, number);
     if (shown.item.refusal != 0) {
-        print_refusal("item", shown.item.refusal);
+        print_refused("item", shown.item.refusal);
         return STATUS_REFUSED;
     }
     print_item(&shown);

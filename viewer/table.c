@@ -2,8 +2,9 @@
 
 #include "jintarueng.h"
 #include "numbers.h"
+#include "words.h"
 
-enum { COUNT_PLACE = 4, TABLE_PLACE = 8, ENTRY_LENGTH = 6, NUMBER_OF_SNPS = 1, NO_SUCH_ID = 7, ID_TWICE = 8 };
+enum { COUNT_PLACE = 4, TABLE_PLACE = 8, ENTRY_LENGTH = 6, NUMBER_OF_SNPS = 1 };
 
 /* Looking up an id whose value stands in the table itself makes these checks and finds the entry, no more. */
 uint64_t gtc_table_refusal(const struct file *file) {

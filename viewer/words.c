@@ -1,5 +1,7 @@
 #include "words.h"
 
+#include <inttypes.h>
+
 const char *refusal_meaning(uint64_t refusal) {
     static const char *const meanings[] = {
         [1] = "cut short: a byte that the rule needs lies at or past the end",
@@ -84,15 +86,29 @@ const struct gtc_row *gtc_row_of(uint16_t id) {
     return NULL;
 }
 
-void print_bytes(FILE *out, const uint8_t *bytes, size_t length) {
+void print_refusal(uint64_t refusal) {
+    printf("refused %" PRIu64 ": %s", refusal, refusal_meaning(refusal));
+}
+
+void print_refused(const char *what, uint64_t refusal) {
+    printf("%s ", what);
+    print_refusal(refusal);
+    putchar('\n');
+}
+
+void print_bytes(const uint8_t *bytes, size_t length) {
     for (size_t i = 0; i < length; i++) {
-        fputc(bytes[i] >= 32 && bytes[i] <= 126 ? bytes[i] : '.', out);
+        putchar(bytes[i] >= 32 && bytes[i] <= 126 ? bytes[i] : '.');
     }
 }
 
-void print_tag_name(FILE *out, uint32_t name) {
-    uint8_t bytes[4] = {(uint8_t)(name >> 24), (uint8_t)(name >> 16), (uint8_t)(name >> 8), (uint8_t)name};
-    print_bytes(out, bytes, sizeof bytes);
+struct tag_letters tag_letters(uint32_t name) {
+    return (struct tag_letters){{(uint8_t)(name >> 24), (uint8_t)(name >> 16), (uint8_t)(name >> 8), (uint8_t)name}};
+}
+
+void print_tag_name(uint32_t name) {
+    struct tag_letters letters = tag_letters(name);
+    print_bytes(letters.bytes, sizeof letters.bytes);
 }
 
 void print_path(FILE *out, const char *path) {
@@ -100,4 +116,10 @@ void print_path(FILE *out, const char *path) {
         unsigned char byte = (unsigned char)*path;
         fputc(byte < 32 || byte == 127 ? '?' : byte, out);
     }
+}
+
+void tell_failure(const char *path, const char *reason) {
+    fputs("jtview: ", stderr);
+    print_path(stderr, path);
+    fprintf(stderr, ": %s\n", reason);
 }

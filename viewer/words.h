@@ -6,8 +6,25 @@
 #include <stdint.h>
 #include <stdio.h>
 
+/* The refusals that the viewer tells apart. */
+enum {
+    NO_SUCH_TAG = 7,
+    NO_SUCH_ID = 7,
+    ID_TWICE = 8,
+    TYPE_NOT_HANDLED = 10,
+    FORBIDDEN_VALUE = 11,
+    NO_SUCH_ELEMENT = 12
+};
+
 /* What a refusal's number means. */
 const char *refusal_meaning(uint64_t refusal);
+
+/* Prints a refusal with its meaning, and as a line of its own with what is refused. */
+void print_refusal(uint64_t refusal);
+void print_refused(const char *what, uint64_t refusal);
+
+/* Prints to stderr why a file cannot be read or written. */
+void tell_failure(const char *path, const char *reason);
 
 /* The published name of an ABIF element type, "user" from 1024 on, "unknown" for a code that the format does not list.
  */
@@ -28,10 +45,17 @@ struct gtc_row {
 const struct gtc_row *gtc_row_of(uint16_t id);
 
 /* Prints bytes as text: those outside 32 to 126 as a full stop. */
-void print_bytes(FILE *out, const uint8_t *bytes, size_t length);
+void print_bytes(const uint8_t *bytes, size_t length);
+
+/* The four bytes of a tag's name. */
+struct tag_letters {
+    uint8_t bytes[4];
+};
+
+struct tag_letters tag_letters(uint32_t name);
 
 /* Prints a tag's name, and a file's name with control characters as a question mark. */
-void print_tag_name(FILE *out, uint32_t name);
+void print_tag_name(uint32_t name);
 void print_path(FILE *out, const char *path);
 
 #endif
