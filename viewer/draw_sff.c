@@ -14,7 +14,6 @@ enum {
     FLOW_LETTER_HEIGHT = 34,
     LETTER_HEIGHT = 15,
     ROW_GAP = 26,
-    PART_HEIGHT = 26,
     HUNDREDTHS = 100,
     LOWEST_TOP = 200
 };
