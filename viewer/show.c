@@ -54,7 +54,7 @@ static void show_bytes(const struct shown *shown) {
         begin_line(i, BYTES_A_LINE);
         printf(" %02x", byte_at(shown->file, shown->item.start + i));
     }
-    printf("\n");
+    puts(shown->item.length > 0 ? "" : "no bytes");
 }
 
 static bool all_printable(const int64_t *numbers, uint64_t count) {

@@ -11,6 +11,7 @@ mod program;
 mod scratch;
 mod sff;
 mod verdict;
+mod words;
 mod workers;
 mod xml;
 

@@ -3,3 +3,4 @@
 pub mod check;
 mod contents;
 pub mod files;
+pub mod listed;

@@ -20,7 +20,8 @@ pub fn gtc(group: &mut Group) {
     check_all(group, &cuts(&gtc::files::files()), PLAIN);
 }
 
-fn cuts(files: &[Vec<u8>]) -> Vec<Input> {
+/// Every beginning of each file.
+pub fn cuts(files: &[Vec<u8>]) -> Vec<Input> {
     let mut inputs = Vec::new();
     for (index, file) in files.iter().enumerate() {
         for length in 0..=file.len() {

@@ -1,13 +1,15 @@
-//! The first line and the status of listing a file and of showing its items, and the refusals told.
+//! What listing a file and showing its items print, and the status.
 
+use super::cuts::cuts;
 use super::damaged::{abif_files, gtc_files, sff_files};
-use crate::abif;
 use crate::drawing::Input;
 use crate::findings::Findings;
 use crate::program::{Output, Program};
 use crate::scratch::Scratch;
 use crate::verdict::{self, Format};
+use crate::words::{self, Line};
 use crate::workers;
+use crate::{abif, gtc, sff};
 use compare::abif::generate::Order;
 use compare::abif::reader::{element, lookup, open, text, Tag, Type};
 use compare::refusal::Refusal;
@@ -30,10 +32,9 @@ pub fn list_and_show(group: &mut Group) {
     inputs.extend(sff_files(DAMAGED));
     inputs.extend(gtc_files(DAMAGED));
     let run = abif::files::run([7, 5, 9, 6], Order::DirectoryFirst);
-    for length in 0..=run.len() {
-        let name = format!("cut to {length}");
-        inputs.push(Input::new(name, run[..length].to_vec()));
-    }
+    inputs.extend(cuts(&[run]));
+    inputs.extend(cuts(&sff::files::runs()[..4]));
+    inputs.extend(cuts(&gtc::files::files()[..1]));
     let scratch = Scratch::new();
     let findings = workers::each(inputs.len(), |worker, index| {
         let bytes = &inputs[index].bytes;
@@ -51,6 +52,13 @@ fn check(file: &Path, bytes: &[u8]) -> Findings {
     let output = Program::plain().run(&["list".as_ref(), file.as_os_str()]);
     let is_refused = !verdict::is_whole(bytes) || has_refused_read(bytes);
     check_start(&mut findings, "list", &output, &line, is_refused);
+    let listed = match Format::of(bytes) {
+        Format::Abif => abif::listed::list(bytes),
+        Format::Sff => sff::listed::list(bytes),
+        Format::Gtc => gtc::listed::list(bytes),
+        Format::Unknown => Vec::new(),
+    };
+    check_lines(&mut findings, "list", &output, &listed);
     if Format::of(bytes) == Format::Abif {
         for tag in tags(bytes) {
             check_shown(&mut findings, file, bytes, &line, tag);
@@ -89,17 +97,17 @@ fn check_shown(findings: &mut Findings, file: &Path, bytes: &[u8], line: &[u8], 
     let is_refused = refusal.is_some() || !verdict::is_whole(bytes);
     let what = format!("show {tag:?}");
     check_start(findings, &what, &output, line, is_refused);
-    let shown = output.stdout_text();
-    let behind: Vec<&str> = shown.lines().skip(1).collect();
-    let is_told = |refusal: Refusal| {
-        let words = format!("refused {}: {}", refusal as u64, verdict::meaning(refusal));
-        behind.iter().any(|line| line.ends_with(&words))
-    };
-    let fits = match refusal {
-        Some(refusal) => is_told(refusal),
-        None => !behind.is_empty() && !behind.iter().any(|line| line.contains("refused")),
-    };
-    findings.check(fits, || format!("{what}: {refusal:?}, printed {shown:?}"));
+    check_lines(findings, &what, &output, &abif::listed::show(bytes, tag));
+}
+
+// The lines behind the file's own.
+fn check_lines(findings: &mut Findings, what: &str, output: &Output, expected: &[Line]) {
+    let printed = output.stdout_text();
+    let printed: Vec<&str> = printed.lines().skip(1).collect();
+    let fault = words::fault(expected, &printed);
+    findings.check(fault.is_none(), || {
+        format!("{what}: {}", fault.unwrap_or_default())
+    });
 }
 
 // The item's refusal, or that of its text or of one of its elements.

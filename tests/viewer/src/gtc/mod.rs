@@ -2,4 +2,5 @@
 
 pub mod check;
 pub mod files;
+pub mod listed;
 mod places;

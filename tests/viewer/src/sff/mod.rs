@@ -2,3 +2,4 @@
 
 pub mod check;
 pub mod files;
+pub mod listed;
