@@ -31,25 +31,34 @@ static void spell_coordinates(struct chart *chart) {
     }
 }
 
+/* Each channel by itself has nearly all of its values on the scale, so that none can lie outside as a whole. */
 static void choose_scale(struct chart *chart) {
-    const struct item_numbers *channels = chart->run->channels;
-    struct census *census = take(1, sizeof *census);
+    enum { LOWEST_TOP = 100, LEAST_BELOW = 10 };
+    int64_t top = LOWEST_TOP;
+    int64_t below = 0;
+    struct bounds all = {0, 0};
     for (int i = 0; i < CHANNELS; i++) {
-        census_range(census, channels[i].values, channels[i].count);
+        const struct item_numbers *channel = &chart->run->channels[i];
+        struct bounds bounds = bounds_of(channel->values, channel->count);
+        int64_t up = usual_level(channel->values, channel->count, 1, bounds.highest);
+        int64_t down = usual_level(channel->values, channel->count, -1, -bounds.lowest);
+        top = up > top ? up : top;
+        below = down > below ? down : below;
+        all.highest = bounds.highest > all.highest ? bounds.highest : all.highest;
+        all.lowest = bounds.lowest < all.lowest ? bounds.lowest : all.lowest;
     }
-    for (int i = 0; i < CHANNELS; i++) {
-        census_count(census, channels[i].values, channels[i].count);
-    }
-    chart->top = census_top(census);
-    chart->bottom = census_bottom(census, chart->top);
+    chart->top = round_above(top);
+    below = below > 0 ? round_above(below) : 0;
+    chart->bottom = below == 0 || below > chart->top / LEAST_BELOW ? -below : -chart->top / LEAST_BELOW;
     chart->tenths = 10.0 * PLOT_HEIGHT / (double)(chart->top - chart->bottom);
-    chart->off_scale = census->highest > chart->top || census->lowest < chart->bottom;
-    free(census);
+    chart->off_scale = all.highest > chart->top || all.lowest < chart->bottom;
 }
 
-static uint64_t row_of(const struct chart *chart, uint64_t place) {
-    uint64_t row = place / POINTS;
-    return row < chart->rows ? row : chart->rows - 1;
+/* The row of a letter's place; where its trace ends with the point that two rows share, the first of them. */
+static uint64_t row_of(const struct run *run, uint64_t i) {
+    uint64_t place = (uint64_t)run->places.values[i];
+    bool shared = place > 0 && place % POINTS == 0;
+    return place / POINTS - (shared && letter_ends_a_trace(run, i) ? 1 : 0);
 }
 
 /* From the last letter to the first, so that each row's stand in order. */
@@ -57,7 +66,7 @@ static void sort_letters(struct chart *chart) {
     const struct run *run = chart->run;
     for (uint64_t base = run->letters.count; base > 0; base--) {
         if (letter_is_shown(run, base - 1)) {
-            uint64_t row = row_of(chart, (uint64_t)run->places.values[base - 1]);
+            uint64_t row = row_of(run, base - 1);
             chart->next_letter[base - 1] = chart->first_letter[row];
             chart->first_letter[row] = base;
         } else {
@@ -67,6 +76,7 @@ static void sort_letters(struct chart *chart) {
 }
 
 void chart_prepare(struct chart *chart) {
+    enum { LEAST_TOP_QUALITY = 60 };
     const struct run *run = chart->run;
     chart->length = run_length(run);
     chart->rows = chart->length <= 1 ? 1 : (chart->length - 2) / POINTS + 1;
@@ -75,8 +85,13 @@ void chart_prepare(struct chart *chart) {
     chart->next_letter = take(run->letters.count, sizeof *chart->next_letter);
     choose_scale(chart);
     spell_coordinates(chart);
+    chart->top_quality = LEAST_TOP_QUALITY;
     if (chart->lettered) {
         sort_letters(chart);
+    }
+    if (run->qualified) {
+        int64_t highest = bounds_of(run->qualities.values, run->qualities.count).highest;
+        chart->top_quality = highest > LEAST_TOP_QUALITY ? highest : LEAST_TOP_QUALITY;
     }
 }
 

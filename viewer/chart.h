@@ -28,6 +28,7 @@ struct chart {
     int64_t top, bottom;    /* of the scale */
     double tenths;          /* of a pixel, for each unit of the scale */
     bool off_scale;         /* some value lies outside of the scale */
+    int64_t top_quality;    /* the highest quality, or what is usual */
     bool lettered;          /* letters are shown where their traces are there */
     uint64_t hidden;        /* letters that are not */
     uint64_t *first_letter; /* for each row the first base to show, from one, or 0 */

@@ -3,35 +3,26 @@
 #include <inttypes.h>
 #include <string.h>
 
-enum { TOP_QUALITY = 60 };
-
 /* The highest and the lowest value of a row, where they lie outside of the scale. */
 struct outside {
     int64_t highest;
     int64_t lowest;
 };
 
-static void draw_level(struct chart *chart, int64_t value) {
-    struct svg *svg = &chart->picture->svg;
-    int64_t y = chart_tenths(chart, value);
-    svg_markup(svg, "<path class=\"grid\" d=\"M0 ");
-    svg_tenths(svg, y);
-    svg_format(svg, "h%d\"/><text class=\"small end\" x=\"-6\" y=\"", PLOT_WIDTH);
-    svg_tenths(svg, y + 40);
-    svg_markup(svg, "\">");
-    svg_grouped(svg, value);
-    svg_markup(svg, "</text>\n");
+static void draw_value(struct chart *chart, int64_t value) {
+    draw_level(chart->picture, chart_tenths(chart, value), value);
 }
 
 static void draw_scale(struct chart *chart) {
     struct svg *svg = &chart->picture->svg;
-    draw_level(chart, chart->top);
-    draw_level(chart, chart->top / 2);
-    draw_level(chart, 0);
+    draw_value(chart, chart->top);
+    draw_value(chart, chart->top / 2);
+    draw_value(chart, 0);
     if (chart->bottom < 0) {
-        draw_level(chart, chart->bottom);
+        draw_value(chart, chart->bottom);
     }
-    svg_format(svg, "<text class=\"small end\" x=\"-6\" y=\"%d\">signal</text>", PLOT_HEIGHT / 3 - 4);
+    svg_format(svg, "<text class=\"small middle\" transform=\"translate(-66,%d) rotate(-90)\">signal</text>",
+               PLOT_HEIGHT / 2);
     svg_format(svg, "<rect class=\"frame\" width=\"%d\" height=\"%d\"/>\n", PLOT_WIDTH, PLOT_HEIGHT);
 }
 
@@ -156,7 +147,7 @@ static void draw_quality(struct chart *chart, uint64_t base, uint64_t x) {
     if (quality < 0) {
         return;
     }
-    int64_t tenths = 10 * QUALITY_HEIGHT * (quality < TOP_QUALITY ? quality : TOP_QUALITY) / TOP_QUALITY;
+    int64_t tenths = 10 * QUALITY_HEIGHT * quality / chart->top_quality;
     svg_markup(svg, "<rect class=\"quality\" data-base=\"");
     svg_number(svg, (int64_t)base);
     svg_markup(svg, "\" data-value=\"");
@@ -188,7 +179,8 @@ static void draw_quality_scale(struct chart *chart) {
     int zero = -LETTERS_HEIGHT;
     svg_format(svg, "<path class=\"grid\" d=\"M0 %dh%dM0 %dh%d\"/>", zero, PLOT_WIDTH, zero - QUALITY_HEIGHT,
                PLOT_WIDTH);
-    svg_format(svg, "<text class=\"small end\" x=\"-6\" y=\"%d\">%d</text>", zero - QUALITY_HEIGHT + 8, TOP_QUALITY);
+    svg_format(svg, "<text class=\"small end\" x=\"-6\" y=\"%d\">%" PRId64 "</text>", zero - QUALITY_HEIGHT + 8,
+               chart->top_quality);
     svg_format(svg, "<text class=\"small end\" x=\"-6\" y=\"%d\">quality</text>", zero - QUALITY_HEIGHT / 2 + 6);
     svg_format(svg, "<text class=\"small end\" x=\"-6\" y=\"%d\">0</text>\n", zero + 4);
 }

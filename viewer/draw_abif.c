@@ -2,11 +2,13 @@
 #include "draw.h"
 
 #include "memory.h"
+#include "numbers.h"
+#include "words.h"
 
 #include <inttypes.h>
 #include <string.h>
 
-enum { PART_HEIGHT = 26, PART_WIDTH = 632, NOTE_HEIGHT = 20, MOST_NOTES = 6, NOTE_LENGTH = 160 };
+enum { NOTE_HEIGHT = 20, MOST_NOTES = 6, NOTE_LENGTH = 160 };
 
 /* Why something that was read is not shown. */
 struct notes {
@@ -16,12 +18,11 @@ struct notes {
 
 /* The name of the channel's dye, if the file has it. */
 static void draw_dye(struct chart *chart, int channel) {
-    enum { DYE_NAME = 0x4479654E };
     const struct file *file = chart->picture->file;
-    jt_part dye = jt_abif_text(file->bytes, file->length, DYE_NAME, channel + 1);
+    jt_part dye = jt_abif_text(file->bytes, file->length, tag_name("DyeN"), channel + 1);
     if (dye.refusal == 0) {
         svg_markup(&chart->picture->svg, ", dye ");
-        svg_bytes(&chart->picture->svg, file->bytes + dye.start, dye.length);
+        svg_bytes(&chart->picture->svg, part_of(file, dye.start, dye.length), dye.length);
     }
 }
 

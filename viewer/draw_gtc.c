@@ -10,11 +10,12 @@
 #include <string.h>
 
 enum {
+    NOT_CALLED = 0, /* the genotypes by their codes */
+    NULL_GENOTYPE = 4,
     GENOTYPES = 46,
     UNREAD = GENOTYPES, /* the class of SNPs whose genotypes cannot be read */
     CLASSES,
     PLOT_SIZE = 760,
-    PART_HEIGHT = 26,
     PARTS = 5,
     LEGEND_LEFT = PLOT_LEFT + PLOT_SIZE + 40
 };
@@ -30,8 +31,9 @@ struct snp {
 struct scatter {
     struct picture *picture;
     jt_item parts[PARTS];
-    uint64_t refusal; /* of the SNPs' records */
-    uint64_t forbidden;
+    uint64_t refusal;   /* of all the SNPs' records */
+    uint64_t forbidden; /* the records that are refused by themselves */
+    char label[64];     /* what of the SNPs is refused */
     uint64_t count;
     struct snp *snps;
     uint64_t in_class[CLASSES];
@@ -115,8 +117,8 @@ static void choose_scale(struct scatter *scatter) {
 }
 
 static void genotype_name(const struct scatter *scatter, int class, char name[16]) {
-    if (class == 0 || class == 4 || class == UNREAD) {
-        snprintf(name, 16, "%s", class == 0 ? "NC" : class == 4 ? "NULL" : "unread");
+    if (class == NOT_CALLED || class == NULL_GENOTYPE || class == UNREAD) {
+        snprintf(name, 16, "%s", class == NOT_CALLED ? "NC" : class == NULL_GENOTYPE ? "NULL" : "unread");
         return;
     }
     int b = scatter->b_alleles[class];
@@ -137,14 +139,15 @@ static const char *genotype_colour(const struct scatter *scatter, int class) {
     return shades[8 * scatter->b_alleles[class] / ploidy];
 }
 
-/* A mark around a point: a circle for all A, a square for all B, a triangle between; a cross where there is no call. */
+/* A mark around a point: a circle for all A, a square for all B, a triangle between; a cross where there is no call,
+   and a dash for NULL. */
 static const char *genotype_mark(const struct scatter *scatter, int class) {
     int ploidy = scatter->ploidy[class];
     if (class == UNREAD) {
         return "m-1.5 0h3m-1.5-1.5v3";
     }
     if (ploidy == 0) {
-        return "m-2.5-2.5l5 5m0-5l-5 5";
+        return class == NULL_GENOTYPE ? "m-3 0h6" : "m-2.5-2.5l5 5m0-5l-5 5";
     }
     if (scatter->b_alleles[class] == 0) {
         return "m-2.5 0a2.5 2.5 0 1 0 5 0a2.5 2.5 0 1 0-5 0z";
@@ -213,9 +216,13 @@ static void draw_axes(struct scatter *scatter) {
 }
 
 /* The records that are refused: some for what stands in them, or all. */
-static struct refused refused_snps(const struct scatter *scatter) {
-    uint64_t refusal = scatter->forbidden > 0 ? FORBIDDEN_VALUE : scatter->refusal;
-    return (struct refused){"SNPs", "SNPs", scatter->forbidden, refusal};
+static struct refused refused_snps(struct scatter *scatter) {
+    if (scatter->forbidden == 0) {
+        return (struct refused){"SNPs", "SNPs", 0, scatter->refusal};
+    }
+    snprintf(scatter->label, sizeof scatter->label, "%" PRIu64 " of %" PRIu64 " SNPs", scatter->forbidden,
+             scatter->forbidden + scatter->count);
+    return (struct refused){"SNPs", scatter->label, scatter->forbidden, FORBIDDEN_VALUE};
 }
 
 static void draw_plot(struct scatter *scatter, int y) {
@@ -236,23 +243,60 @@ static void draw_plot(struct scatter *scatter, int y) {
     svg_markup(svg, "</g>\n");
 }
 
+/* Whether two classes have the same mark in the same colour: as many B among their letters, for their number. */
+static bool look_the_same(const struct scatter *scatter, int left, int right) {
+    return strcmp(genotype_mark(scatter, left), genotype_mark(scatter, right)) == 0 &&
+           strcmp(genotype_colour(scatter, left), genotype_colour(scatter, right)) == 0;
+}
+
+/* A name in the list of those that look the same: the first few, and a sign that there are more. */
+static void draw_name(struct scatter *scatter, int class, int names) {
+    enum { FEW = 4 };
+    char name[16];
+    genotype_name(scatter, class, name);
+    if (names < FEW) {
+        svg_format(&scatter->picture->svg, "%s<tspan font-weight=\"bold\">%s</tspan>", names > 0 ? ", " : "", name);
+    } else if (names == FEW) {
+        svg_markup(&scatter->picture->svg, " ...");
+    }
+}
+
+/* The names of a class and of all behind it that look the same, and how many SNPs they have. */
+static void draw_look(struct scatter *scatter, int class) {
+    uint64_t count = 0;
+    int names = 0;
+    for (int other = class; other < CLASSES; other++) {
+        if (scatter->in_class[other] > 0 && look_the_same(scatter, class, other)) {
+            draw_name(scatter, other, names++);
+            count += scatter->in_class[other];
+        }
+    }
+    svg_markup(&scatter->picture->svg, ": ");
+    svg_grouped(&scatter->picture->svg, (int64_t)count);
+}
+
+static bool is_first_of_its_look(const struct scatter *scatter, int class) {
+    for (int other = 0; other < class; other++) {
+        if (scatter->in_class[other] > 0 && look_the_same(scatter, class, other)) {
+            return false;
+        }
+    }
+    return scatter->in_class[class] > 0;
+}
+
 static void draw_legend(struct scatter *scatter, int y) {
     struct svg *svg = &scatter->picture->svg;
     for (int class = 0; class < CLASSES; class ++) {
-        if (scatter->in_class[class] == 0) {
-            continue;
+        if (is_first_of_its_look(scatter, class)) {
+            svg_markup(svg, "<path ");
+            draw_paint(scatter, class);
+            svg_format(svg, " transform=\"translate(%d,%d) scale(2)\" d=\"M0 0%s\"/>", LEGEND_LEFT, y + 10,
+                       genotype_mark(scatter, class));
+            svg_format(svg, "<text x=\"%d\" y=\"%d\">", LEGEND_LEFT + 20, y + 15);
+            draw_look(scatter, class);
+            svg_markup(svg, " SNPs</text>\n");
+            y += PART_HEIGHT;
         }
-        char name[16];
-        genotype_name(scatter, class, name);
-        svg_format(svg, "<path ");
-        draw_paint(scatter, class);
-        svg_format(svg, " transform=\"translate(%d,%d) scale(2)\" d=\"M0 0%s\"/>", LEGEND_LEFT, y + 10,
-                   genotype_mark(scatter, class));
-        svg_format(svg, "<text x=\"%d\" y=\"%d\"><tspan font-weight=\"bold\">%s</tspan>: ", LEGEND_LEFT + 20, y + 15,
-                   name);
-        svg_grouped(svg, (int64_t)scatter->in_class[class]);
-        svg_markup(svg, " SNPs</text>\n");
-        y += PART_HEIGHT;
     }
 }
 
@@ -273,22 +317,20 @@ static void draw_part(struct scatter *scatter, int part, struct box box) {
     svg_markup(svg, is_whole(&scatter->picture->judgement) ? "</text>\n" : ", file refused</text>\n");
 }
 
-/* The five arrays in two columns, and behind them the records that are refused. */
+/* The five arrays, and behind them the records that are refused. */
 static void draw_parts(struct scatter *scatter, int y) {
-    enum { WIDTH = 632, ROWS = 3 };
-    for (int part = 0; part <= PARTS; part++) {
-        int x = part < ROWS ? PICTURE_MARGIN : PICTURE_WIDTH - PICTURE_MARGIN - WIDTH;
-        struct box box = {x, y + part % ROWS * PART_HEIGHT, WIDTH, PART_HEIGHT - 4};
-        if (part < PARTS) {
-            draw_part(scatter, part, box);
-        } else if (scatter->forbidden > 0 || scatter->refusal != 0) {
-            draw_refused(scatter->picture, refused_snps(scatter), box);
-        }
+    struct box box = {PICTURE_MARGIN, y, PICTURE_WIDTH - 2 * PICTURE_MARGIN, PART_HEIGHT - 4};
+    for (int part = 0; part < PARTS; part++) {
+        draw_part(scatter, part, box);
+        box.y += PART_HEIGHT;
+    }
+    if (scatter->forbidden > 0 || scatter->refusal != 0) {
+        draw_refused(scatter->picture, refused_snps(scatter), box);
     }
 }
 
 static void draw_scatter(struct scatter *scatter) {
-    enum { PARTS_HEIGHT = 3 * PART_HEIGHT + 20, AXIS_HEIGHT = 50 };
+    enum { PARTS_HEIGHT = (PARTS + 1) * PART_HEIGHT + 20, AXIS_HEIGHT = 50 };
     struct picture *picture = scatter->picture;
     int y = picture_head_height(picture) + 6;
     picture_begin(picture, y + PARTS_HEIGHT + PLOT_SIZE + AXIS_HEIGHT);

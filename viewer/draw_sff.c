@@ -111,12 +111,7 @@ static void draw_scale(struct flowgram *flowgram) {
     struct svg *svg = &flowgram->picture->svg;
     int64_t step = round_above(flowgram->top / 1000 * HUNDREDTHS);
     for (int64_t value = 0; value <= flowgram->top; value += step > HUNDREDTHS ? step : HUNDREDTHS) {
-        int64_t y = 10 * PLOT_HEIGHT - tenths_of(flowgram, value);
-        svg_markup(svg, "<path class=\"grid\" d=\"M0 ");
-        svg_tenths(svg, y);
-        svg_format(svg, "h%d\"/><text class=\"small end\" x=\"-6\" y=\"", PLOT_WIDTH);
-        svg_tenths(svg, y + 40);
-        svg_format(svg, "\">%" PRId64 "</text>", value / HUNDREDTHS);
+        draw_level(flowgram->picture, 10 * PLOT_HEIGHT - tenths_of(flowgram, value), value / HUNDREDTHS);
     }
     svg_format(svg, "<text class=\"small end\" x=\"-26\" y=\"%d\">bases</text>", PLOT_HEIGHT / 2);
     svg_format(svg, "<text class=\"small end\" x=\"-6\" y=\"%d\">flow</text>", PLOT_HEIGHT + 14);
@@ -197,15 +192,8 @@ static void draw_rows(struct flowgram *flowgram, int64_t y) {
     }
 }
 
-static void draw_legend(struct flowgram *flowgram, int y) {
+static void draw_colours(struct flowgram *flowgram, int y) {
     struct svg *svg = &flowgram->picture->svg;
-    const struct jt_sff_read *read = &flowgram->read;
-    svg_format(svg, "<text x=\"%d\" y=\"%d\"><tspan font-weight=\"bold\">%s</tspan> ", PICTURE_MARGIN, y,
-               flowgram->part);
-    svg_bytes(svg, flowgram->picture->file->bytes + read->name_start, read->name_length);
-    svg_format(svg,
-               ": %" PRIu64 " bases, %" PRIu64 " to %" PRIu64 " kept; %" PRIu64 " flows; of %" PRIu64 " reads</text>\n",
-               read->bases, read->first, read->last, flowgram->header.flows, flowgram->header.reads);
     for (int i = 0; i < 4; i++) {
         char letter = "ACGT"[i];
         svg_format(svg, "<rect x=\"%d\" y=\"%d\" width=\"14\" height=\"14\" fill=\"%s\"/>", 20 + 50 * i, y + 12,
@@ -214,6 +202,23 @@ static void draw_legend(struct flowgram *flowgram, int y) {
     }
     svg_format(svg, "<rect x=\"240\" y=\"%d\" width=\"30\" height=\"14\" fill=\"#d8d8d8\"/>", y + 12);
     svg_format(svg, "<text x=\"278\" y=\"%d\">clipped</text>\n", y + 24);
+}
+
+static void draw_legend(struct flowgram *flowgram, int y) {
+    struct svg *svg = &flowgram->picture->svg;
+    const struct jt_sff_read *read = &flowgram->read;
+    svg_format(svg, "<text x=\"%d\" y=\"%d\"><tspan font-weight=\"bold\">%s</tspan> ", PICTURE_MARGIN, y,
+               flowgram->part);
+    svg_bytes(svg, part_of(flowgram->picture->file, read->name_start, read->name_length), read->name_length);
+    svg_format(svg, ": %" PRIu64 " bases, ", read->bases);
+    if (read->first <= read->last) {
+        svg_format(svg, "%" PRIu64 " to %" PRIu64 " kept", read->first, read->last);
+    } else {
+        svg_markup(svg, "none kept");
+    }
+    svg_format(svg, "; %" PRIu64 " flows; of %" PRIu64 " reads</text>\n", flowgram->header.flows,
+               flowgram->header.reads);
+    draw_colours(flowgram, y);
     draw_file_refused(flowgram->picture, PICTURE_WIDTH - PICTURE_MARGIN, y);
 }
 

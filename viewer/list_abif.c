@@ -3,8 +3,6 @@
 
 #include <inttypes.h>
 
-enum { MOST_ENTRIES = 999, MOST_INLINE_BYTES = 4 };
-
 /* The entry as it stands, and what looking it up is refused with. */
 static bool print_entry(const struct file *file, const jt_entry *entry) {
     jt_item item = jt_abif_lookup(file->bytes, file->length, entry->name, entry->number);

@@ -1,5 +1,6 @@
 #include "list.h"
 #include "memory.h"
+#include "numbers.h"
 #include "words.h"
 
 #include <inttypes.h>
@@ -7,7 +8,7 @@
 
 static void print_header(const struct file *file, const struct jt_sff_header *header) {
     printf("reads %" PRIu64 ", flows %" PRIu64 ", key ", header->reads, header->flows);
-    print_bytes(file->bytes + header->key_start, header->key_length);
+    print_bytes(part_of(file, header->key_start, header->key_length), header->key_length);
     printf(", header of %" PRIu64 " bytes, ", header->header_length);
     if (header->index_length == 0) {
         printf("no index\n");
@@ -15,7 +16,7 @@ static void print_header(const struct file *file, const struct jt_sff_header *he
         printf("index of %" PRIu64 " bytes at %" PRIu64 "\n", header->index_length, header->index_offset);
     }
     printf("flow letters ");
-    print_bytes(file->bytes + header->flow_letters_start, header->flows);
+    print_bytes(part_of(file, header->flow_letters_start, header->flows), header->flows);
     putchar('\n');
 }
 
@@ -35,7 +36,7 @@ static void print_read(const struct file *file, uint64_t k, const struct jt_sff_
     print_clips(read->adapter_left, read->adapter_right);
     print_clips(read->first, read->last);
     printf("  ");
-    print_bytes(file->bytes + read->name_start, read->name_length);
+    print_bytes(part_of(file, read->name_start, read->name_length), read->name_length);
     putchar('\n');
 }
 
@@ -57,21 +58,30 @@ static uint64_t padded(uint64_t length) {
     return (length + 7) / 8 * 8;
 }
 
-/* Where the read behind one that was answered starts: behind its padding, and behind the index if that comes next. */
-static uint64_t place_behind(const struct jt_sff_header *header, const struct jt_sff_read *read) {
-    uint64_t place = padded(read->qualities_start + read->bases);
-    bool at_index = header->index_length != 0 && place == header->index_offset;
-    return at_index ? place + padded(header->index_length) : place;
+/* The boundary itself, or behind the index if that stands there. */
+static uint64_t past_the_index(const struct jt_sff_header *header, uint64_t boundary) {
+    bool at_index = header->index_length != 0 && boundary == header->index_offset;
+    return at_index ? boundary + padded(header->index_length) : boundary;
 }
 
-/* The reads of a refused file, up to the first that is not there. Behind a read whose contents are refused, which tells
-   no places, the next one is walked to from the front. */
+/* Where the next read starts, behind one that is there at this place, whether or not its contents are refused. */
+static uint64_t place_behind(const struct file *file, const struct jt_sff_header *header, uint64_t place) {
+    enum { BASES_FIELD = 4 };
+    uint64_t bases = big_endian_32(file, place + BASES_FIELD);
+    uint64_t data = padded(2 * header->flows + 3 * bases);
+    return past_the_index(header, place + big_endian_16(file, place) + data);
+}
+
+/* The reads of a refused file, up to the first that is not there. */
 static void list_until_refused(const struct file *file, const struct jt_sff_header *header) {
-    struct jt_sff_read read = {.refusal = FORBIDDEN_VALUE};
-    for (uint64_t k = 1; k <= header->reads && (read.refusal == 0 || read.refusal == FORBIDDEN_VALUE); k++) {
-        read = read.refusal == 0 ? jt_sff_read_at(file->bytes, file->length, place_behind(header, &read))
-                                 : jt_sff_read(file->bytes, file->length, k);
+    uint64_t place = past_the_index(header, header->header_length);
+    for (uint64_t k = 1; k <= header->reads; k++) {
+        struct jt_sff_read read = jt_sff_read_at(file->bytes, file->length, place);
         print_read(file, k, &read);
+        if (read.refusal != 0 && read.refusal != FORBIDDEN_VALUE) {
+            return;
+        }
+        place = place_behind(file, header, place);
     }
 }
 

@@ -4,16 +4,24 @@
 #include <stdlib.h>
 #include <string.h>
 
-uint8_t byte_at(const struct file *file, uint64_t place) {
-    if (place >= file->length) {
+const uint8_t *part_of(const struct file *file, uint64_t start, uint64_t length) {
+    if (start > file->length || length > file->length - start) {
         fputs("jtview: a place past the end of the file\n", stderr);
         abort();
     }
-    return file->bytes[place];
+    return file->bytes + start;
+}
+
+uint8_t byte_at(const struct file *file, uint64_t place) {
+    return *part_of(file, place, 1);
 }
 
 uint16_t big_endian_16(const struct file *file, uint64_t place) {
     return (uint16_t)(byte_at(file, place) << 8 | byte_at(file, place + 1));
+}
+
+uint32_t big_endian_32(const struct file *file, uint64_t place) {
+    return (uint32_t)big_endian_16(file, place) << 16 | big_endian_16(file, place + 2);
 }
 
 uint16_t little_endian_16(const struct file *file, uint64_t place) {

@@ -1,5 +1,6 @@
 #include "picture.h"
 
+#include "numbers.h"
 #include "table.h"
 #include "words.h"
 
@@ -34,12 +35,11 @@ int picture_head_height(const struct picture *picture) {
 
 /* The name that an ABIF file gives its sample, if it can be read. */
 static void draw_sample_name(struct picture *picture) {
-    enum { SAMPLE_NAME = 0x534D504C };
     const struct file *file = picture->file;
-    jt_part name = jt_abif_text(file->bytes, file->length, SAMPLE_NAME, 1);
+    jt_part name = jt_abif_text(file->bytes, file->length, tag_name("SMPL"), 1);
     if (name.refusal == 0) {
         svg_markup(&picture->svg, "; sample ");
-        svg_bytes(&picture->svg, file->bytes + name.start, name.length);
+        svg_bytes(&picture->svg, part_of(file, name.start, name.length), name.length);
     }
 }
 
@@ -65,7 +65,6 @@ static void draw_title(struct picture *picture) {
 }
 
 static void draw_tag(struct picture *picture, uint64_t entry) {
-    enum { MOST_ENTRIES = 999 };
     const struct file *file = picture->file;
     jt_entry entries[MOST_ENTRIES];
     jt_listed listed = jt_abif_list(file->bytes, file->length, entries, MOST_ENTRIES);
@@ -186,6 +185,17 @@ void draw_refused(struct picture *picture, struct refused refused, struct box bo
     draw_box_text(picture, refused, box);
 }
 
+void draw_level(struct picture *picture, int64_t tenths, int64_t number) {
+    struct svg *svg = &picture->svg;
+    svg_markup(svg, "<path class=\"grid\" d=\"M0 ");
+    svg_tenths(svg, tenths);
+    svg_format(svg, "h%d\"/><text class=\"small end\" x=\"-6\" y=\"", PLOT_WIDTH);
+    svg_tenths(svg, tenths + 40);
+    svg_markup(svg, "\">");
+    svg_grouped(svg, number);
+    svg_markup(svg, "</text>\n");
+}
+
 void draw_file_refused(struct picture *picture, int x, int y) {
     if (!is_whole(&picture->judgement)) {
         svg_format(&picture->svg,
@@ -196,12 +206,16 @@ void draw_file_refused(struct picture *picture, int x, int y) {
 const char *letter_colour(char letter) {
     switch (letter) {
     case 'A':
+    case 'a':
         return "#35b597";
     case 'C':
+    case 'c':
         return "#22409a";
     case 'G':
+    case 'g':
         return "#000";
     case 'T':
+    case 't':
         return "#c8553d";
     default:
         return "#666";

@@ -7,6 +7,9 @@
 
 enum { PICTURE_WIDTH = 1320, PICTURE_MARGIN = 20, PLOT_LEFT = 92, PLOT_WIDTH = 1200 };
 
+/* A line of the list of parts, which stands in two columns. */
+enum { PART_HEIGHT = 26, PART_WIDTH = 632 };
+
 struct picture {
     const struct file *file;
     struct judgement judgement;
@@ -34,6 +37,9 @@ struct refused {
 
 /* A hatched box in its place, with the refusal in it. */
 void draw_refused(struct picture *picture, struct refused refused, struct box box);
+
+/* A line across a plot, so many tenths of a pixel below its top, with its number at the left. */
+void draw_level(struct picture *picture, int64_t tenths, int64_t number);
 
 /* The mark beside what is drawn of a refused file; it ends at `x`. */
 void draw_file_refused(struct picture *picture, int x, int y);

@@ -11,11 +11,6 @@
 
 enum { FIRST_ANALYSED = 9, FIRST_RAW = 1 };
 
-static uint32_t tag_name(const char *letters) {
-    const unsigned char *bytes = (const unsigned char *)letters;
-    return (uint32_t)bytes[0] << 24 | (uint32_t)bytes[1] << 16 | (uint32_t)bytes[2] << 8 | bytes[3];
-}
-
 static uint64_t lookup_refusal(const struct file *file, const char *name, int32_t number) {
     return jt_abif_lookup(file->bytes, file->length, tag_name(name), number).refusal;
 }
@@ -104,19 +99,26 @@ static const char *bases_of(int64_t letter) {
     return bases != NULL ? bases : "ACGT";
 }
 
-bool letter_is_shown(const struct run *run, uint64_t i) {
-    if (!run->placed || run->bases[0] == 0 || run->places.values[i] < 0) {
-        return false;
-    }
-    uint64_t place = (uint64_t)run->places.values[i];
+/* How many values all traces have that the letter stands for: as many as the shortest of them. */
+static uint64_t traced_length(const struct run *run, uint64_t i) {
     const char *bases = bases_of(run->letters.values[i]);
+    uint64_t length = UINT64_MAX;
     for (int channel = 0; channel < CHANNELS; channel++) {
         bool needed = strchr(bases, run->bases[channel]) != NULL;
-        if (needed && place >= run->channels[channel].count) {
-            return false;
+        if (needed && run->channels[channel].count < length) {
+            length = run->channels[channel].count;
         }
     }
-    return true;
+    return length;
+}
+
+bool letter_is_shown(const struct run *run, uint64_t i) {
+    bool placed = run->placed && run->bases[0] != 0 && run->places.values[i] >= 0;
+    return placed && (uint64_t)run->places.values[i] < traced_length(run, i);
+}
+
+bool letter_ends_a_trace(const struct run *run, uint64_t i) {
+    return (uint64_t)run->places.values[i] + 1 == traced_length(run, i);
 }
 
 uint64_t run_length(const struct run *run) {

@@ -36,6 +36,9 @@ void run_free(struct run *run);
 /* Whether base `i`, from 0, is shown: every trace that its letter stands for is there at its place. */
 bool letter_is_shown(const struct run *run, uint64_t i);
 
+/* Whether one of its traces has its last value at the letter's place. */
+bool letter_ends_a_trace(const struct run *run, uint64_t i);
+
 /* How many values the longest channel has that is there. */
 uint64_t run_length(const struct run *run);
 

@@ -2,9 +2,7 @@
 
 #include <stddef.h>
 
-enum { BINS = 4096, FEW = 500, SAMPLED = 4, LOWEST_TOP = 100 };
-
-/* Whole numbers of up to 31 bits stand in the files, so that nothing here passes 64. */
+/* Whole numbers of up to 32 bits stand in the files, so that nothing here passes 64. */
 int64_t round_above(int64_t value) {
     static const int64_t steps[] = {10, 12, 15, 20, 25, 30, 40, 50, 60, 80};
     for (int64_t power = 1;; power *= 10) {
@@ -16,43 +14,33 @@ int64_t round_above(int64_t value) {
     }
 }
 
-void census_range(struct census *census, const int64_t *values, uint64_t count) {
-    int64_t lowest = census->lowest;
-    int64_t highest = census->highest;
+struct bounds bounds_of(const int64_t *values, uint64_t count) {
+    struct bounds bounds = {0, 0};
     for (uint64_t i = 0; i < count; i++) {
-        lowest = values[i] < lowest ? values[i] : lowest;
-        highest = values[i] > highest ? values[i] : highest;
+        bounds.lowest = values[i] < bounds.lowest ? values[i] : bounds.lowest;
+        bounds.highest = values[i] > bounds.highest ? values[i] : bounds.highest;
     }
-    census->lowest = lowest;
-    census->highest = highest;
-    while (census->highest >> census->shift >= BINS) {
-        census->shift++;
-    }
+    return bounds;
 }
 
-void census_count(struct census *census, const int64_t *values, uint64_t count) {
-    for (uint64_t i = 0; i < count; i += SAMPLED) {
-        census->bins[values[i] < 0 ? 0 : values[i] >> census->shift]++;
-        census->total++;
+int64_t usual_level(const int64_t *values, uint64_t count, int64_t sign, int64_t furthest) {
+    enum { BINS = 4096, FEW = 500 };
+    uint64_t bins[BINS] = {0};
+    uint64_t step = count > BINS ? 4 : 1;
+    unsigned shift = 0;
+    while (furthest >> shift >= BINS) {
+        shift++;
     }
-}
-
-int64_t census_top(const struct census *census) {
+    for (uint64_t i = 0; i < count; i += step) {
+        int64_t distance = sign * values[i];
+        bins[distance < 0 ? 0 : distance >> shift]++;
+    }
     uint64_t above = 0;
     int64_t bin = BINS;
-    while (bin > 0 && above <= census->total / FEW) {
+    while (bin > 0 && above <= count / step / FEW) {
         bin--;
-        above += census->bins[bin];
+        above += bins[bin];
     }
-    int64_t level = ((bin + 1) << census->shift) * 3 / 2;
-    int64_t top = level < census->highest ? level : census->highest;
-    return round_above(top > LOWEST_TOP ? top : LOWEST_TOP);
-}
-
-int64_t census_bottom(const struct census *census, int64_t top) {
-    if (census->lowest >= 0) {
-        return 0;
-    }
-    int64_t bottom = -round_above(-census->lowest);
-    return bottom > -top / 4 ? bottom : -top / 4;
+    int64_t level = ((bin + 1) << shift) * 3 / 2;
+    return level < furthest ? level : furthest;
 }

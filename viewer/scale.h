@@ -7,24 +7,16 @@
 /* A round number that is not below the value. */
 int64_t round_above(int64_t value);
 
-/* Counts every fourth value, to find a level that only few of them pass. */
-struct census {
+/* The lowest and the highest of some values and 0. */
+struct bounds {
     int64_t lowest;
     int64_t highest;
-    unsigned shift;
-    uint64_t total;
-    uint64_t bins[4096];
 };
 
-void census_range(struct census *census, const int64_t *values, uint64_t count);
-void census_count(struct census *census, const int64_t *values, uint64_t count);
+struct bounds bounds_of(const int64_t *values, uint64_t count);
 
-/* The top of a scale on which all but one counted value in 500 take two thirds at most; the highest value's where that
- * is less.
- */
-int64_t census_top(const struct census *census);
-
-/* The bottom of a scale with that top: 0, or room for the values below it. */
-int64_t census_bottom(const struct census *census, int64_t top);
+/* A level that all but one in 500 of the values stay below, with room above them, and no more than `furthest`, the
+   furthest of them. With the sign -1 it counts downwards from 0. Of many values every fourth is looked at. */
+int64_t usual_level(const int64_t *values, uint64_t count, int64_t sign, int64_t furthest);
 
 #endif

@@ -8,7 +8,7 @@
 #include <stdlib.h>
 
 enum { TYPE_CHAR = 2, TYPE_P_STRING = 18, TYPE_C_STRING = 19 };
-enum { MOST_INLINE_BYTES = 4, NUMBERS_A_LINE = 10, BYTES_A_LINE = 16, LETTERS_A_LINE = 60 };
+enum { NUMBERS_A_LINE = 10, BYTES_A_LINE = 16, LETTERS_A_LINE = 60 };
 
 /* The item that is shown, and the tag that it was asked for by. */
 struct shown {
@@ -44,7 +44,7 @@ static bool show_text(const struct shown *shown) {
         print_refused("text", text.refusal);
         return false;
     }
-    print_bytes(file->bytes + text.start, text.length);
+    print_bytes(part_of(file, text.start, text.length), text.length);
     putchar('\n');
     return true;
 }
@@ -97,9 +97,6 @@ static uint64_t show_whole_numbers(const struct shown *shown) {
 
 static void print_element(const jt_element *element) {
     switch (element->kind) {
-    case JT_WHOLE:
-        printf("%" PRId64, element->whole);
-        break;
     case JT_SINGLE:
         printf("%.9g", (double)element->single);
         break;

@@ -102,6 +102,11 @@ void print_bytes(const uint8_t *bytes, size_t length) {
     }
 }
 
+uint32_t tag_name(const char *letters) {
+    const unsigned char *bytes = (const unsigned char *)letters;
+    return (uint32_t)bytes[0] << 24 | (uint32_t)bytes[1] << 16 | (uint32_t)bytes[2] << 8 | bytes[3];
+}
+
 struct tag_letters tag_letters(uint32_t name) {
     return (struct tag_letters){{(uint8_t)(name >> 24), (uint8_t)(name >> 16), (uint8_t)(name >> 8), (uint8_t)name}};
 }

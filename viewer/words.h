@@ -47,11 +47,15 @@ const struct gtc_row *gtc_row_of(uint16_t id);
 /* Prints bytes as text: those outside 32 to 126 as a full stop. */
 void print_bytes(const uint8_t *bytes, size_t length);
 
-/* The four bytes of a tag's name. */
+/* An ABIF directory's most entries, and the most bytes of data that stand in the entry itself. */
+enum { MOST_ENTRIES = 999, MOST_INLINE_BYTES = 4 };
+
+/* A tag's name as a number, from its four letters, and its four bytes. */
 struct tag_letters {
     uint8_t bytes[4];
 };
 
+uint32_t tag_name(const char *letters);
 struct tag_letters tag_letters(uint32_t name);
 
 /* Prints a tag's name, and a file's name with control characters as a question mark. */

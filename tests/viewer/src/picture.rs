@@ -7,6 +7,8 @@ use compare::refusal::{Refusal, Refused};
 use std::collections::BTreeSet;
 
 const HATCHING: &str = "url(#hatch)";
+/// What a letter in a box takes at most on the average, in pixels.
+const LETTER_WIDTH: f64 = 7.0;
 
 /// The parts that are hatched, with their refusals' numbers.
 pub type Parts = BTreeSet<(String, u64)>;
@@ -62,6 +64,31 @@ pub fn check_frame(findings: &mut Findings, root: &Element, bytes: &[u8], parts:
         format!("hatched are {found:?}, refused are {parts:?}")
     });
     check_hatching(findings, root, !parts.is_empty());
+    check_words(findings, root);
+}
+
+// Each box has its refusal in words, which do not run out of it.
+fn check_words(findings: &mut Findings, root: &Element) {
+    let boxes = of_class(root, "refused");
+    let words = of_class(root, "box");
+    findings.check(boxes.len() == words.len(), || {
+        format!("{} boxes with words in {}", boxes.len(), words.len())
+    });
+    for (hatched, words) in boxes.iter().zip(words) {
+        let refusal: u64 = number(hatched, "data-refusal").unwrap_or(0);
+        let part = hatched.attribute("data-part").unwrap_or("");
+        let text = words.text.as_str();
+        let meaning = text.split_once(&format!(": REFUSED {refusal}, "));
+        let is_told = meaning.is_some_and(|(label, meaning)| {
+            label.contains(part) && verdict::is_meaning(refusal, meaning)
+        });
+        findings.check(is_told, || {
+            format!("{part} refused {refusal} says {text:?}")
+        });
+        let width = number(hatched, "width").unwrap_or(0.0);
+        let fits = text.chars().count() as f64 * LETTER_WIDTH <= width;
+        findings.check(fits, || format!("{text:?} in {width} pixels"));
+    }
 }
 
 fn check_root(findings: &mut Findings, root: &Element, format: Format, refused: Option<Refused>) {

@@ -4,6 +4,23 @@ use compare::program::lines_of_any_length;
 use compare::refusal::{Refusal, Refused};
 use compare::{abif, gtc, sff};
 
+const ALL_REFUSALS: [Refusal; 14] = [
+    Refusal::CutShort,
+    Refusal::OtherMark,
+    Refusal::OtherVersion,
+    Refusal::BadHeader,
+    Refusal::TooManyEntries,
+    Refusal::BadOffset,
+    Refusal::NotThere,
+    Refusal::TagTwice,
+    Refusal::BadSizes,
+    Refusal::TypeNotHandled,
+    Refusal::ForbiddenValue,
+    Refusal::NoSuchElement,
+    Refusal::OutputTooSmall,
+    Refusal::NotAscending,
+];
+
 #[derive(Clone, Copy, Debug, PartialEq, Eq)]
 pub enum Format {
     Abif,
@@ -66,6 +83,14 @@ pub fn shown_name(name: &[u8]) -> Vec<u8> {
         }
     };
     name.iter().map(shown).collect()
+}
+
+/// Whether these are the words for the refusal of this number.
+pub fn is_meaning(number: u64, words: &str) -> bool {
+    let refusal = ALL_REFUSALS
+        .into_iter()
+        .find(|&refusal| refusal as u64 == number);
+    refusal.is_some_and(|refusal| meaning(refusal) == words)
 }
 
 /// A refusal in the words of the C header.

@@ -12,7 +12,9 @@ const ROUNDING: f64 = 0.050_001;
 /// How many times as wide as the values, with nought among them, a scale may be.
 const WIDEST_SCALE: f64 = 2.5;
 /// How wide a scale may be in any case.
-const SMALLEST_SCALE: f64 = 100.0;
+const SMALLEST_SCALE: f64 = 110.0;
+/// Of so many values of a channel one may lie outside.
+const FEW: usize = 100;
 
 /// Checks all that the picture shows; tells whether a channel is refused.
 pub fn check(findings: &mut Findings, root: &Element, bytes: &[u8], raw: bool) -> bool {
@@ -207,7 +209,21 @@ fn check_scales(findings: &mut Findings, rows: &[&Element], contents: &Contents)
                 scale.bottom, scale.top
             )
         });
+        for channel in &contents.channels {
+            check_inside(findings, &scale, channel);
+        }
     }
+}
+
+// A channel that lies outside would be there, and not to be seen.
+fn check_inside(findings: &mut Findings, scale: &Scale, channel: &Channel) {
+    let values = channel.values.as_deref().unwrap_or(&[]).iter();
+    let is_outside = |value: &&i64| **value as f64 > scale.top || (**value as f64) < scale.bottom;
+    let count = values.len();
+    let outside = values.filter(is_outside).count();
+    findings.check(outside <= count / FEW, || {
+        format!("{}: {outside} of {count} outside", channel.part)
+    });
 }
 
 // A row tells the highest and the lowest of its values that leave the scale.
@@ -248,9 +264,7 @@ fn check_bases(findings: &mut Findings, root: &Element, rows: &[&Element], conte
     });
     for (index, row) in rows.iter().enumerate() {
         let bases = contents.bases.iter();
-        let expected: Vec<&Base> = bases
-            .filter(|base| contents.row_of(base.place) == index)
-            .collect();
+        let expected: Vec<&Base> = bases.filter(|base| base.row == index).collect();
         check_letters(findings, row, &expected);
         check_qualities(findings, row, &expected);
     }

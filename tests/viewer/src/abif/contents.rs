@@ -18,6 +18,7 @@ pub struct Channel {
 #[derive(Debug, PartialEq, Eq)]
 pub struct Base {
     pub base: usize,
+    pub row: usize,
     pub place: usize,
     pub letter: i64,
     pub quality: Option<i64>,
@@ -55,10 +56,6 @@ impl Contents {
             parts,
             bases,
         }
-    }
-
-    pub fn row_of(&self, place: usize) -> usize {
-        (place / POINTS_IN_A_ROW).min(self.rows - 1)
     }
 
     pub fn refused_channels(&self) -> Parts {
@@ -156,10 +153,12 @@ impl Called {
         let qualities = qualities.filter(|qualities| qualities.len() == letters.len());
         let mut bases = Vec::new();
         for (index, (&letter, &place)) in letters.iter().zip(places).enumerate() {
-            if place >= 0 && traces_reach(channels, order, letter, place as usize) {
+            let length = traced_length(channels, order, letter);
+            if place >= 0 && (place as usize) < length {
                 let quality = qualities.map(|qualities| qualities[index]);
                 bases.push(Base {
                     base: index + 1,
+                    row: row_of(place as usize, length),
                     place: place as usize,
                     letter,
                     quality: quality.filter(|&quality| quality >= 0),
@@ -170,12 +169,23 @@ impl Called {
     }
 }
 
-fn traces_reach(channels: &[Channel], order: [usize; 4], letter: i64, place: usize) -> bool {
+// How far all traces go that the letter stands for.
+fn traced_length(channels: &[Channel], order: [usize; 4], letter: i64) -> usize {
     let meant = meant_bases(letter);
-    b"ACGT".iter().zip(order).all(|(base, channel)| {
-        let count = channels[channel].values.as_ref().map_or(0, Vec::len);
-        !meant.contains(base) || place < count
-    })
+    let bases = b"ACGT".iter().zip(order);
+    let needed = bases.filter(|(base, _)| meant.contains(base));
+    let lengths = needed.map(|(_, channel)| channels[channel].values.as_ref().map_or(0, Vec::len));
+    lengths.min().unwrap_or(0)
+}
+
+// A trace that ends with the point that two rows share has its line in the first of them.
+fn row_of(place: usize, length: usize) -> usize {
+    let row = place / POINTS_IN_A_ROW;
+    if row > 0 && place % POINTS_IN_A_ROW == 0 && place + 1 == length {
+        row - 1
+    } else {
+        row
+    }
 }
 
 // What a letter stands for, by the codes of the IUPAC.

@@ -56,6 +56,20 @@ pub fn channels(length: usize) -> Vec<u8> {
     plain_file(&items, Order::DirectoryFirst).bytes()
 }
 
+/// A run whose channels lie at these levels, the first of them short, with letters over each.
+pub fn levelled(levels: [i16; 4]) -> Vec<u8> {
+    let mut random = Random::new(77);
+    let lengths = [40, 900, 900, 900];
+    let mut items = called(&mut random, 1, lengths);
+    items.push((Tag::new(b"FWO_", 1), Content::listed(2, b"ACGT".to_vec())));
+    for ((number, level), length) in (9..).zip(levels).zip(lengths) {
+        let value = |_| level.saturating_add(random.below(90) as i16).to_be_bytes();
+        let data = (0..length).flat_map(value).collect();
+        items.push((Tag::new(b"DATA", number), Content::listed(4, data)));
+    }
+    plain_file(&items, Order::DirectoryFirst).bytes()
+}
+
 fn raw_run(order: Order) -> Vec<u8> {
     let mut random = Random::new(73);
     let mut items = raw_channels(&mut random, [64, 40, 97, 60]);

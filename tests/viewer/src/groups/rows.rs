@@ -1,11 +1,20 @@
-//! Channels whose ends lie at and around the ends of rows.
+//! Channels whose ends lie at and around the ends of rows, and channels that lie far apart.
 
-use crate::abif::files::{channels, run};
+use crate::abif::files::{channels, levelled, run};
 use crate::drawing::{check_all, Input, Wish, PLAIN};
 use compare::abif::generate::Order;
 use compare::report::Group;
 
 const LENGTHS: [usize; 12] = [0, 1, 2, 3, 599, 600, 601, 602, 1200, 1201, 1202, 1801];
+
+const LEVELS: [[i16; 4]; 6] = [
+    [-900, 0, 500, 900],
+    [-500, -400, -300, -200],
+    [30_000, 10, 0, -10],
+    [i16::MIN, i16::MAX, -90, 0],
+    [0, 0, 0, -45],
+    [20, -5000, 20, 20],
+];
 
 pub fn rows(group: &mut Group) {
     let mut inputs = Vec::new();
@@ -17,6 +26,10 @@ pub fn rows(group: &mut Group) {
             let name = format!("channels of {lengths:?} points");
             inputs.push(Input::new(name, run(lengths, Order::DirectoryFirst)));
         }
+    }
+    for levels in LEVELS {
+        let name = format!("channels at {levels:?}");
+        inputs.push(Input::new(name, levelled(levels)));
     }
     check_all(group, &inputs, PLAIN);
     check_all(group, &inputs[..20], Wish::raw());

@@ -145,4 +145,11 @@ fn check_forbidden(findings: &mut Findings, root: &Element, contents: &Contents)
     findings.check(fits, || {
         format!("{counts:?} for {} forbidden", contents.forbidden)
     });
+    let drawn: usize = contents.places.values().map(Vec::len).sum();
+    let all = drawn + contents.forbidden;
+    let told = format!("{} of {all} SNPs: REFUSED 11", contents.forbidden);
+    let mut words = of_class(root, "box").into_iter();
+    findings.check(words.any(|words| words.text.starts_with(&told)), || {
+        format!("no box says {told:?}")
+    });
 }
