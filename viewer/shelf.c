@@ -53,7 +53,7 @@ static void count(struct shelf *shelf, const struct judgement *judgement) {
         shelf->unknown++;
     } else {
         shelf->refused++;
-        shelf->by_number[judgement->verdict.refusal % REFUSALS]++;
+        shelf->by_number[judgement->verdict.refusal]++;
     }
 }
 
@@ -77,27 +77,45 @@ static int by_bytes(const void *left, const void *right) {
     return strcmp(*(char *const *)left, *(char *const *)right);
 }
 
-/* The names in a folder, sorted, and their number; NULL, with errno, where it cannot be read. */
-static char **sorted_names(const char *path, size_t *count) {
+/* NULL at the end, and, with errno, where the folder cannot be read on. */
+static struct dirent *next_entry(DIR *folder) {
+    errno = 0;
+    return readdir(folder);
+}
+
+/* The names in a folder, sorted; and NULL, or the reason why it could not be read to its end. */
+struct names {
+    char **list;
+    size_t count;
+    size_t room;
+    const char *failure;
+};
+
+static void add_name(struct names *names, const char *name) {
+    if (names->count == names->room) {
+        names->room = names->room > 0 ? 2 * names->room : 16;
+        names->list = take_more(names->list, names->room, sizeof *names->list);
+    }
+    names->list[names->count++] = copy_text(name);
+}
+
+static struct names names_in(const char *path) {
+    struct names names = {0};
     DIR *folder = opendir(path);
     if (folder == NULL) {
-        return NULL;
+        names.failure = strerror(errno);
+        return names;
     }
-    size_t room = 16;
-    char **names = take(room, sizeof *names);
-    *count = 0;
-    for (struct dirent *entry = readdir(folder); entry != NULL; entry = readdir(folder)) {
-        if (strcmp(entry->d_name, ".") == 0 || strcmp(entry->d_name, "..") == 0) {
-            continue;
+    for (struct dirent *entry = next_entry(folder); entry != NULL; entry = next_entry(folder)) {
+        if (strcmp(entry->d_name, ".") != 0 && strcmp(entry->d_name, "..") != 0) {
+            add_name(&names, entry->d_name);
         }
-        if (*count == room) {
-            room *= 2;
-            names = take_more(names, room, sizeof *names);
-        }
-        names[(*count)++] = copy_text(entry->d_name);
     }
+    names.failure = errno != 0 ? strerror(errno) : NULL;
     closedir(folder);
-    qsort(names, *count, sizeof *names, by_bytes);
+    if (names.count > 0) {
+        qsort(names.list, names.count, sizeof *names.list, by_bytes);
+    }
     return names;
 }
 
@@ -126,19 +144,17 @@ static char *path_in(const char *folder, const char *name) {
 }
 
 static void walk_folder(struct shelf *shelf, const char *path) {
-    size_t count = 0;
-    char **names = sorted_names(path, &count);
-    if (names == NULL) {
-        report_unreadable(shelf, path, strerror(errno));
-        return;
+    struct names names = names_in(path);
+    if (names.failure != NULL) {
+        report_unreadable(shelf, path, names.failure);
     }
-    for (size_t i = 0; i < count; i++) {
-        char *inside = path_in(path, names[i]);
+    for (size_t i = 0; i < names.count; i++) {
+        char *inside = path_in(path, names.list[i]);
         judge_entry(shelf, inside);
         free(inside);
-        free(names[i]);
+        free(names.list[i]);
     }
-    free(names);
+    free(names.list);
 }
 
 static void print_summary(const struct shelf *shelf) {
