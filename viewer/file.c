@@ -27,8 +27,15 @@ static const char *take_file(struct file *file, int descriptor) {
     return file->bytes == NULL ? strerror(errno) : NULL;
 }
 
+static const char *volatile at_hand = "";
+
+const char *file_at_hand(void) {
+    return at_hand;
+}
+
 const char *file_open(struct file *file, const char *path) {
     *file = (struct file){.path = path};
+    at_hand = path;
     int descriptor = open(path, O_RDONLY | O_NONBLOCK | O_CLOEXEC);
     if (descriptor < 0) {
         return strerror(errno);
@@ -43,4 +50,5 @@ void file_close(struct file *file) {
         bytes_release(file->bytes, file->length);
     }
     *file = (struct file){.path = file->path};
+    at_hand = "";
 }

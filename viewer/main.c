@@ -22,14 +22,44 @@ static int usage(void) {
     return STATUS_UNREADABLE;
 }
 
-/* A file that somebody cuts while it is mapped has no bytes where it had some. */
-static void end_of_a_cut_file(int signal) {
-    static const char message[] = "jtview: the file was cut while it was read\n";
-    ssize_t written = write(STDERR_FILENO, message, sizeof message - 1);
-    (void)signal;
+static void write_error(const char *text) {
+    ssize_t written = write(STDERR_FILENO, text, strlen(text));
     (void)written;
+}
+
+/* Where a mapped file was cut, or its disk fails, there are no bytes any more. */
+static void end_without_bytes(int signal) {
+    (void)signal;
     svg_abandon();
+    write_error("jtview: ");
+    write_error(file_at_hand());
+    write_error(": was cut while it was read, or cannot be read\n");
     _exit(STATUS_UNREADABLE);
+}
+
+static void end_interrupted(int number) {
+    svg_abandon();
+    signal(number, SIG_DFL);
+    raise(number);
+}
+
+/* While the handler runs, the signal waits; one that is to be ignored, as by nohup, still is. */
+static void watch(int number, void (*handler)(int)) {
+    struct sigaction action = {.sa_handler = handler};
+    struct sigaction before;
+    sigemptyset(&action.sa_mask);
+    if (sigaction(number, NULL, &before) == 0 && before.sa_handler != SIG_IGN) {
+        sigaction(number, &action, NULL);
+    }
+}
+
+static void watch_signals(void) {
+    watch(SIGBUS, end_without_bytes);
+    watch(SIGINT, end_interrupted);
+    watch(SIGTERM, end_interrupted);
+    watch(SIGHUP, end_interrupted);
+    watch(SIGABRT, end_interrupted);
+    atexit(svg_abandon);
 }
 
 static bool open_or_tell(struct file *file, const char *path) {
@@ -70,11 +100,7 @@ static int show_command(int count, char *const arguments[]) {
     if (!open_or_tell(&file, arguments[0])) {
         return STATUS_UNREADABLE;
     }
-    uint32_t name = 0;
-    for (int i = 0; i < 4; i++) {
-        name = name << 8 | (unsigned char)arguments[1][i];
-    }
-    enum status status = show_item(&file, name, (int32_t)number);
+    enum status status = show_item(&file, tag_name(arguments[1]), (int32_t)number);
     file_close(&file);
     return status;
 }
@@ -128,8 +154,7 @@ static int run_command(int count, char *const arguments[]) {
 }
 
 int main(int count, char *arguments[]) {
-    signal(SIGBUS, end_of_a_cut_file);
-    atexit(svg_abandon);
+    watch_signals();
     if (count < 2) {
         return usage();
     }

@@ -2,33 +2,57 @@
 
 #include <errno.h>
 #include <fcntl.h>
+#include <limits.h>
+#include <signal.h>
 #include <stdarg.h>
 #include <stdio.h>
+#include <stdlib.h>
 #include <string.h>
 #include <sys/stat.h>
 #include <unistd.h>
 
-/* The regular file that is being written. */
-static const char *volatile unfinished;
+/* The file beside the picture's place that is being written, or none. */
+static char unfinished[PATH_MAX];
+static volatile sig_atomic_t is_unfinished;
 
 void svg_abandon(void) {
-    if (unfinished != NULL) {
+    if (is_unfinished) {
         unlink(unfinished);
     }
 }
 
-const char *svg_open(struct svg *svg, const char *path) {
+/* With the rights that a file has that is just made. */
+static void give_usual_rights(int descriptor) {
+    mode_t mask = umask(0);
+    umask(mask);
+    fchmod(descriptor, 0666 & ~mask);
+}
+
+/* What is no regular file, as a terminal or a link, is written to as it is; else a file beside it is, which takes its
+   place when it is whole. */
+static int open_picture(const char *path) {
     struct stat state;
+    if (lstat(path, &state) == 0 && !S_ISREG(state.st_mode)) {
+        return open(path, O_WRONLY | O_CREAT | O_TRUNC | O_CLOEXEC, 0666);
+    }
+    if ((size_t)snprintf(unfinished, sizeof unfinished, "%s.XXXXXX", path) >= sizeof unfinished) {
+        errno = ENAMETOOLONG;
+        return -1;
+    }
+    int descriptor = mkstemp(unfinished);
+    if (descriptor >= 0) {
+        is_unfinished = 1;
+        give_usual_rights(descriptor);
+    }
+    return descriptor;
+}
+
+const char *svg_open(struct svg *svg, const char *path) {
+    svg->path = path;
     svg->used = 0;
     svg->failure = NULL;
-    svg->descriptor = open(path, O_WRONLY | O_CREAT | O_TRUNC | O_CLOEXEC, 0666);
-    if (svg->descriptor < 0) {
-        return strerror(errno);
-    }
-    if (fstat(svg->descriptor, &state) == 0 && S_ISREG(state.st_mode)) {
-        unfinished = path;
-    }
-    return NULL;
+    svg->descriptor = open_picture(path);
+    return svg->descriptor < 0 ? strerror(errno) : NULL;
 }
 
 static void flush(struct svg *svg) {
@@ -49,10 +73,13 @@ const char *svg_close(struct svg *svg) {
     if (close(svg->descriptor) != 0 && svg->failure == NULL) {
         svg->failure = strerror(errno);
     }
+    if (is_unfinished && svg->failure == NULL && rename(unfinished, svg->path) != 0) {
+        svg->failure = strerror(errno);
+    }
     if (svg->failure != NULL) {
         svg_abandon();
     }
-    unfinished = NULL;
+    is_unfinished = 0;
     return svg->failure;
 }
 

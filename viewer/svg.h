@@ -9,6 +9,7 @@
 enum { SVG_BUFFER = 1 << 16 };
 
 struct svg {
+    const char *path;
     int descriptor;
     size_t used;
     const char *failure; /* NULL, or the reason of the first write that failed */
@@ -18,10 +19,10 @@ struct svg {
 /* NULL, or the reason why the file cannot be written. */
 const char *svg_open(struct svg *svg, const char *path);
 
-/* The same; a file that could not be written whole is removed. */
+/* The same. The picture is in its place only from here on, and only if it could be written whole. */
 const char *svg_close(struct svg *svg);
 
-/* Removes the file that is being written, if there is one: for a program that ends before its time. */
+/* Removes what is written of a picture, if one is being written: for a program that ends before its time. */
 void svg_abandon(void);
 
 /* Room for `length` bytes, at most SVG_BUFFER, at the end of what is written; svg_used tells how many were filled. */

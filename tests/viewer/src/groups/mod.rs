@@ -3,6 +3,7 @@
 mod broken_pictures;
 mod cuts;
 mod damaged;
+mod interrupted;
 mod lines;
 mod list_and_show;
 mod long_files;
@@ -17,12 +18,13 @@ mod well_formed;
 
 use compare::report::Run;
 
-pub const ALL: [(&str, Run); 18] = [
+pub const ALL: [(&str, Run); 19] = [
     ("lines", lines::lines),
     ("shelf", shelf::shelf),
     ("stored", stored::compare),
     ("options", options::options),
     ("not readable", not_readable::not_readable),
+    ("interrupted", interrupted::interrupted),
     ("list and show", list_and_show::list_and_show),
     ("rows", rows::rows),
     ("orders", orders::orders),

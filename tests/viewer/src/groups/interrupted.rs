@@ -1,0 +1,78 @@
+//! Pictures that are interrupted while they are drawn.
+
+use crate::program::Program;
+use crate::scratch::Scratch;
+use compare::abif::generate::{plain_file, Content, Order};
+use compare::abif::reader::Tag;
+use compare::report::Group;
+use std::fs::{self, OpenOptions};
+use std::path::{Path, PathBuf};
+use std::process::{Command, Stdio};
+use std::thread::sleep;
+use std::time::Duration;
+
+/// So many that drawing them takes some tenths of a second.
+const POINTS: i32 = 20_000_000;
+const OLD_PICTURE: &[u8] = b"an older picture";
+
+pub fn interrupted(group: &mut Group) {
+    for wait in [5, 20, 40, 60, 80, 100, 120] {
+        group.input();
+        let scratch = Scratch::new();
+        check(group, &scratch, Duration::from_millis(wait));
+    }
+}
+
+// The older picture is still there, whole, and no piece of the new one.
+fn check(group: &mut Group, scratch: &Scratch, wait: Duration) {
+    let file = long_run(scratch);
+    let picture = scratch.write("picture.svg", OLD_PICTURE);
+    let mut command = Command::new(Program::plain().path());
+    command.arg("draw").arg(&file).arg("-o").arg(&picture);
+    let mut child = command
+        .stdout(Stdio::null())
+        .spawn()
+        .expect("the viewer starts");
+    sleep(wait);
+    let id = child.id().to_string();
+    let sent = Command::new("kill").arg("-TERM").arg(id).status();
+    let status = child.wait().expect("the viewer ends");
+    let sent = sent.is_ok_and(|sent| sent.success());
+    group.check(sent && status.code().is_none(), &[], || {
+        format!("after {wait:?} the viewer ended with {status}")
+    });
+    let names = names_beside(&picture);
+    group.check(names == ["picture.svg", "run.ab1"], &[], || {
+        format!("after {wait:?} there are {names:?}")
+    });
+    let kept = fs::read(&picture).unwrap_or_default();
+    group.check(kept == OLD_PICTURE, &[], || {
+        format!("after {wait:?} the older picture has {} bytes", kept.len())
+    });
+}
+
+// A channel of zeros, which take no room on the disk.
+fn long_run(scratch: &Scratch) -> PathBuf {
+    let shorts = Content::listed(4, vec![0; 8]);
+    let mut draft = plain_file(&[(Tag::new(b"DATA", 9), shorts)], Order::DirectoryFirst);
+    draft.entries[0].count = POINTS;
+    draft.entries[0].data_size = 2 * POINTS;
+    let file = scratch.write("run.ab1", &draft.bytes());
+    let length = draft.entries[0].offset() as u64 + 2 * POINTS as u64;
+    let opened = OpenOptions::new().write(true).open(&file);
+    opened
+        .and_then(|opened| opened.set_len(length))
+        .expect("a long file can be made");
+    file
+}
+
+fn names_beside(file: &Path) -> Vec<String> {
+    let folder = file.parent().expect("the picture stands in a folder");
+    let entries = fs::read_dir(folder).expect("the folder can be read");
+    let mut names: Vec<String> = entries
+        .flatten()
+        .map(|entry| entry.file_name().to_string_lossy().into_owned())
+        .collect();
+    names.sort();
+    names
+}
