@@ -39,8 +39,8 @@ static void draw_places(struct chart *chart, uint64_t first) {
     svg_format(svg, "<text class=\"small end\" x=\"-22\" y=\"%d\">point</text>\n", PLOT_HEIGHT + 15);
 }
 
-/* A point whose value lies on the scale, by texts of a fixed length, the sooner copied; what is too much is written
- * over. */
+/* A value on the scale. Texts of a fixed length are copied sooner; what is too much of one, the next is written over.
+ */
 static char *put_point(const struct chart *chart, char *out, uint64_t column, int64_t value) {
     const struct spelled *x = &chart->x[column];
     const struct spelled *y = &chart->y[chart_tenths(chart, value)];

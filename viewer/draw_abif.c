@@ -8,7 +8,7 @@
 #include <inttypes.h>
 #include <string.h>
 
-enum { NOTE_HEIGHT = 20, MOST_NOTES = 6, NOTE_LENGTH = 160 };
+enum { PART_WIDTH = 632, NOTE_HEIGHT = 20, MOST_NOTES = 6, NOTE_LENGTH = 160 };
 
 /* Why something that was read is not shown. */
 struct notes {

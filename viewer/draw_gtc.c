@@ -16,11 +16,11 @@ enum {
     UNREAD = GENOTYPES, /* the class of SNPs whose genotypes cannot be read */
     CLASSES,
     PLOT_SIZE = 760,
-    PARTS = 5,
     LEGEND_LEFT = PLOT_LEFT + PLOT_SIZE + 40
 };
 
-enum { GENOTYPE_ID = 1002, CALL_ID = 1003, SCORE_ID = 1004, X_ID = 1000, Y_ID = 1001 };
+/* The parts in the order in which a SNP's record is looked up. */
+enum { GENOTYPES_PART, CALLS_PART, SCORES_PART, X_PART, Y_PART, PARTS };
 
 struct snp {
     uint16_t x, y;
@@ -43,7 +43,7 @@ struct scatter {
     uint8_t *taken; /* for each pixel, whether the class at hand has a mark there */
 };
 
-static const uint16_t IDS[PARTS] = {GENOTYPE_ID, CALL_ID, SCORE_ID, X_ID, Y_ID};
+static const uint16_t IDS[PARTS] = {1002, 1003, 1004, 1000, 1001};
 
 static void add_snp(struct scatter *scatter, uint64_t class, uint64_t x, uint64_t y) {
     struct snp snp = {(uint16_t)x, (uint16_t)y, (uint8_t) class};
@@ -81,8 +81,8 @@ static void read_records(struct scatter *scatter, uint64_t count) {
 /* Without records, the intensities alone, if both are there. */
 static void read_intensities(struct scatter *scatter) {
     const struct file *file = scatter->picture->file;
-    const jt_item *x = &scatter->parts[3];
-    const jt_item *y = &scatter->parts[4];
+    const jt_item *x = &scatter->parts[X_PART];
+    const jt_item *y = &scatter->parts[Y_PART];
     if (x->refusal != 0 || y->refusal != 0) {
         return;
     }
@@ -96,7 +96,7 @@ static void read_snps(struct scatter *scatter) {
     for (int i = 0; i < PARTS; i++) {
         scatter->parts[i] = jt_gtc_lookup(file->bytes, file->length, IDS[i]);
     }
-    uint64_t count = scatter->parts[3].count;
+    uint64_t count = scatter->parts[X_PART].count;
     scatter->snps = take(count, sizeof *scatter->snps);
     scatter->refusal = jt_gtc_snp(file->bytes, file->length, 1).refusal;
     if (scatter->refusal == 0 || scatter->refusal == FORBIDDEN_VALUE) {

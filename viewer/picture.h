@@ -7,8 +7,8 @@
 
 enum { PICTURE_WIDTH = 1320, PICTURE_MARGIN = 20, PLOT_LEFT = 92, PLOT_WIDTH = 1200 };
 
-/* A line of the list of parts, which stands in two columns. */
-enum { PART_HEIGHT = 26, PART_WIDTH = 632 };
+/* A line of the list of parts, or of a legend. */
+enum { PART_HEIGHT = 26 };
 
 struct picture {
     const struct file *file;

@@ -29,7 +29,7 @@ static void read_numbers(struct item_numbers *numbers, const struct file *file, 
 
 static bool has_analysed(const struct file *file) {
     for (int32_t i = 0; i < CHANNELS; i++) {
-        if (lookup_refusal(file, "DATA", FIRST_ANALYSED + i) != NO_SUCH_TAG) {
+        if (lookup_refusal(file, "DATA", FIRST_ANALYSED + i) != NOT_THERE) {
             return true;
         }
     }
@@ -56,7 +56,7 @@ static void read_order(struct run *run, const struct file *file) {
 
 /* The edited letters, or those of the base caller where the file has no edited ones. */
 static void read_letters(struct run *run, const struct file *file) {
-    bool edited = lookup_refusal(file, "PBAS", 1) != NO_SUCH_TAG || lookup_refusal(file, "PBAS", 2) == NO_SUCH_TAG;
+    bool edited = lookup_refusal(file, "PBAS", 1) != NOT_THERE || lookup_refusal(file, "PBAS", 2) == NOT_THERE;
     int32_t number = edited ? 1 : 2;
     read_numbers(&run->letters, file, "PBAS", number);
     read_numbers(&run->places, file, "PLOC", number);

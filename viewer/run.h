@@ -8,7 +8,7 @@
 
 enum { CHANNELS = 4 };
 
-/* The whole numbers of an item, or its refusal; without a tag, it was not asked for. */
+/* The whole numbers of an item, or its refusal, with which there are none. */
 struct item_numbers {
     char tag[16]; /* as in "DATA 9" */
     uint64_t refusal;

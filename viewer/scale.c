@@ -23,24 +23,35 @@ struct bounds bounds_of(const int64_t *values, uint64_t count) {
     return bounds;
 }
 
+enum { BINS = 4096 };
+
+/* How many of the values lie at each distance from 0, `shift` bits coarser; those on the other side count as 0. */
+static void count_distances(const int64_t *values, uint64_t count, int64_t sign, unsigned shift, uint64_t bins[BINS]) {
+    for (uint64_t i = 0; i < count; i++) {
+        int64_t distance = sign * values[i];
+        bins[distance < 0 ? 0 : distance >> shift]++;
+    }
+}
+
+/* The first bin, from the highest down, with which more than `few` are counted. */
+static int64_t bin_above_few(const uint64_t bins[BINS], uint64_t few) {
+    uint64_t above = 0;
+    int64_t bin = BINS;
+    while (bin > 0 && above <= few) {
+        bin--;
+        above += bins[bin];
+    }
+    return bin;
+}
+
 int64_t usual_level(const int64_t *values, uint64_t count, int64_t sign, int64_t furthest) {
-    enum { BINS = 4096, FEW = 500 };
+    enum { OUT_OF = 500 };
     uint64_t bins[BINS] = {0};
-    uint64_t step = count > BINS ? 4 : 1;
     unsigned shift = 0;
     while (furthest >> shift >= BINS) {
         shift++;
     }
-    for (uint64_t i = 0; i < count; i += step) {
-        int64_t distance = sign * values[i];
-        bins[distance < 0 ? 0 : distance >> shift]++;
-    }
-    uint64_t above = 0;
-    int64_t bin = BINS;
-    while (bin > 0 && above <= count / step / FEW) {
-        bin--;
-        above += bins[bin];
-    }
-    int64_t level = ((bin + 1) << shift) * 3 / 2;
+    count_distances(values, count, sign, shift, bins);
+    int64_t level = ((bin_above_few(bins, count / OUT_OF) + 1) << shift) * 3 / 2;
     return level < furthest ? level : furthest;
 }

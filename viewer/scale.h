@@ -16,7 +16,7 @@ struct bounds {
 struct bounds bounds_of(const int64_t *values, uint64_t count);
 
 /* A level that all but one in 500 of the values stay below, with room above them, and no more than `furthest`, the
-   furthest of them. With the sign -1 it counts downwards from 0. Of many values every fourth is looked at. */
+   furthest of them. With the sign -1 it counts downwards from 0. */
 int64_t usual_level(const int64_t *values, uint64_t count, int64_t sign, int64_t furthest);
 
 #endif

@@ -9,7 +9,7 @@ enum { COUNT_PLACE = 4, TABLE_PLACE = 8, ENTRY_LENGTH = 6, NUMBER_OF_SNPS = 1 };
 /* Looking up an id whose value stands in the table itself makes these checks and finds the entry, no more. */
 uint64_t gtc_table_refusal(const struct file *file) {
     uint64_t refusal = jt_gtc_lookup(file->bytes, file->length, NUMBER_OF_SNPS).refusal;
-    return refusal == NO_SUCH_ID || refusal == ID_TWICE ? 0 : refusal;
+    return refusal == NOT_THERE || refusal == TWICE ? 0 : refusal;
 }
 
 uint32_t gtc_entries(const struct file *file) {

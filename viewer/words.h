@@ -7,14 +7,7 @@
 #include <stdio.h>
 
 /* The refusals that the viewer tells apart. */
-enum {
-    NO_SUCH_TAG = 7,
-    NO_SUCH_ID = 7,
-    ID_TWICE = 8,
-    TYPE_NOT_HANDLED = 10,
-    FORBIDDEN_VALUE = 11,
-    NO_SUCH_ELEMENT = 12
-};
+enum { NOT_THERE = 7, TWICE = 8, TYPE_NOT_HANDLED = 10, FORBIDDEN_VALUE = 11, NO_SUCH_ELEMENT = 12 };
 
 /* What a refusal's number means. */
 const char *refusal_meaning(uint64_t refusal);
@@ -26,8 +19,7 @@ void print_refused(const char *what, uint64_t refusal);
 /* Prints to stderr why a file cannot be read or written. */
 void tell_failure(const char *path, const char *reason);
 
-/* The published name of an ABIF element type, "user" from 1024 on, "unknown" for a code that the format does not list.
- */
+/* The published name of an ABIF element type; "unknown" for a code that the format does not list. */
 const char *abif_type_name(int64_t code);
 
 /* The shapes of GTC's items. */
