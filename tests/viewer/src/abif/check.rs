@@ -9,6 +9,11 @@ use crate::xml::Element;
 /// Half of the last decimal that a point has, and what floats lose.
 const ROUNDING: f64 = 0.050_001;
 
+/// How high a bar is at the top of its scale, where all bars stand, and what is cut off of a height.
+const TOP_BAR: f64 = 36.0;
+const BARS_FOOT: f64 = -32.0;
+const BAR_ROUNDING: f64 = 0.100_001;
+
 /// How many times as wide as the values, with nought among them, a scale may be.
 const WIDEST_SCALE: f64 = 2.5;
 /// How wide a scale may be in any case.
@@ -266,7 +271,7 @@ fn check_bases(findings: &mut Findings, root: &Element, rows: &[&Element], conte
         let bases = contents.bases.iter();
         let expected: Vec<&Base> = bases.filter(|base| base.row == index).collect();
         check_letters(findings, row, &expected);
-        check_qualities(findings, row, &expected);
+        check_qualities(findings, row, &expected, contents.top_quality);
     }
 }
 
@@ -297,7 +302,8 @@ pub fn shows(text: &str, letter: i64) -> bool {
     }
 }
 
-fn check_qualities(findings: &mut Findings, row: &Element, expected: &[&Base]) {
+// The bars stand on one line, each as high as its quality, to one scale.
+fn check_qualities(findings: &mut Findings, row: &Element, expected: &[&Base], top: i64) {
     let bars = of_class(row, "quality");
     let judged = expected.iter().filter(|base| base.quality.is_some());
     let judged: Vec<&&Base> = judged.collect();
@@ -309,6 +315,19 @@ fn check_qualities(findings: &mut Findings, row: &Element, expected: &[&Base]) {
                 && middle(bar) == Some(place_in_row(row, base))
                 && number(bar, "data-base") == Some(base.base)
                 && number(bar, "data-value") == base.quality
+                && stands_for(bar, base.quality, top)
         });
     findings.check(fits, || format!("bars {bars:?} for {judged:?}"));
+}
+
+fn stands_for(bar: &Element, quality: Option<i64>, top: i64) -> bool {
+    let expected = quality.map(|quality| TOP_BAR * quality as f64 / top as f64);
+    let height = number::<f64>(bar, "height");
+    let foot = number::<f64>(bar, "y")
+        .zip(height)
+        .map(|(y, height)| y + height);
+    let is_as_high = height
+        .zip(expected)
+        .is_some_and(|(height, expected)| (height - expected).abs() <= BAR_ROUNDING);
+    is_as_high && foot.is_some_and(|foot| (foot - BARS_FOOT).abs() < 1e-9)
 }

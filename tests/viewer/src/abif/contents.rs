@@ -5,6 +5,7 @@ use compare::abif::reader::{lookup, whole_numbers, Tag};
 use compare::refusal::Refusal;
 
 pub const POINTS_IN_A_ROW: usize = 600;
+const LEAST_TOP_QUALITY: i64 = 60;
 
 type Numbers = Result<Vec<i64>, Refusal>;
 
@@ -28,6 +29,8 @@ pub struct Contents {
     pub channels: Vec<Channel>,
     pub parts: Parts,
     pub bases: Vec<Base>,
+    /// The quality at the top of the bars' scale: the highest of the file, or 60.
+    pub top_quality: i64,
     pub rows: usize,
 }
 
@@ -45,16 +48,20 @@ impl Contents {
         let order = numbers(bytes, b"FWO_", 1);
         parts.extend(order.as_ref().err().map(|&refusal| part("FWO_ 1", refusal)));
         let mut bases = Vec::new();
+        let mut top_quality = LEAST_TOP_QUALITY;
         if !raw {
             let called = Called::of(bytes);
             parts.extend(called.parts());
             bases = called.bases(&channels, base_order(&order));
+            let highest = called.qualities.iter().flatten().copied().max();
+            top_quality = top_quality.max(highest.unwrap_or(0));
         }
         Contents {
             rows: rows(&channels),
             channels,
             parts,
             bases,
+            top_quality,
         }
     }
 

@@ -30,7 +30,9 @@ const LISTED: [&str; 17] = [
 ];
 
 /// Items that are shown: the file, the tag's name and its number.
-const SHOWN: [(&str, &str, &str); 24] = [
+const SHOWN: [(&str, &str, &str); 26] = [
+    ("run.sff", "DATA", "1"),
+    ("run.gtc", "DATA", "1"),
     ("run.ab1", "PBAS", "1"),
     ("run.ab1", "PCON", "2"),
     ("run.ab1", "SMPL", "1"),
