@@ -6,3 +6,4 @@ pub mod Explain
 pub mod Demand
 pub mod Part
 pub mod Lent
+pub mod Bulk

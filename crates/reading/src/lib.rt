@@ -1,4 +1,5 @@
-// What the formats share: numbers, floats and parts of lent bytes, the checks of a reading call, and those of entries in order.
+// What the formats share: numbers, floats and parts of lent bytes, the checks of a reading call, those of entries in order, and bulk calls.
+pub mod bulk;
 pub mod check;
 pub mod entries;
 pub mod float;
