@@ -2,7 +2,7 @@
 -- W m is what m items left would write from the present state.
 -- Assumes nothing.
 use Prim.Native.Nat.{ℕ, zero, suc, _+_, _-_, _≤_, _<_}
-use mathlib.Core.Path.{_≡_, refl, sym, _∙_, ap}
+use mathlib.Core.Path.{_≡_, refl, sym, _∙_, ap, subst}
 use mathlib.Core.List.{List, [], _∷_, _++_, append-assoc}
 use native.Mathlib.Numerals.{add-one}
 use native.Mathlib.Omega.{arith}
@@ -53,6 +53,10 @@ module _ {A : Type 0} where
           same = l ∙ f .same;
           left = λ m e. rw (t, drop-sets n vs out i h) (append-assoc (take i out) vs (W′ m ++ drop n out) ∙ ap (λ (x : List A). take i out ++ x) (sym (append-assoc vs (W′ m) (drop n out))) ∙ ap (λ (x : List A). take i out ++ (x ++ drop n out)) (sym (g m)) ∙ f .left (length vs + m) (omega arith));
         }
+
+    -- the next item is a record of w numbers
+    pub fill-record : (vs : List A) (w : ℕ) → length vs ≡ w → i + w ≤ n → (W′ : ℕ → List A) → ((m : ℕ) → W (w + m) ≡ vs ++ W′ m) → Filling W′ n (i + w) o (sets out i vs) whole
+    fill-record vs w e h W′ g = subst (λ (k : ℕ). i + k ≤ n → ((m : ℕ) → W (k + m) ≡ vs ++ W′ m) → Filling W′ n (i + k) o (sets out i vs) whole) e (λ l f. fill-many vs l W′ f) h g
 
     -- all is written
     pub fill-end : n ≤ i → W zero ≡ [] → out ≡ whole

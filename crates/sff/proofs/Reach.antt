@@ -5,10 +5,11 @@ use mathlib.Core.Path.{_≡_, sym, _∙_, ap, subst}
 use mathlib.Core.List.{List}
 use native.Mathlib.Omega.{arith}
 use lib.ListN.{length, take, length-take}
+use Rattle.reading.specs.Bulk.{leftFrom, fitting}
 use Rattle.reading.specs.Check.{Check, ok, answer, reach, holds, _>>=_, _>>_}
 use Rattle.reading.proofs.Cut.{answer-same}
 use Rattle.reading.proofs.Steps.{reach-done, reach-must, reach-need, reach-at}
-use Rattle.reading.proofs.Passed.{bind-ok, done-ok, must-ok, ok-inj}
+use Rattle.reading.proofs.Passed.{bind-ok, done-ok, must-ok, at-ok, ok-inj}
 use Rattle.reading.proofs.Reach.{reach-none, reach-under, reach-must-under, reach-need-under, reach-pick-under, reach-done-under}
 use Rattle.reading.proofs.Tests.{number-within}
 use Rattle.sff.specs.declared.header.Header.{Header}
@@ -23,15 +24,14 @@ use Rattle.sff.specs.Clips.{clipsCheck}
 use Rattle.sff.specs.Steps.{stepsCheck}
 use Rattle.sff.specs.Walk.{front, nextRead, Passage, walk, walkPast, beforeRead}
 use Rattle.sff.specs.Judge.{ending, judgingReads, judging}
-use Rattle.sff.specs.Lookup.{readContents, readFrom, readIn, readReading, readAtReading}
-use Rattle.sff.specs.Places.{left, Given, placesFrom, placesIn, placesReading}
+use Rattle.sff.specs.Lookup.{readContents, readFrom, readIn, readReading}
+use Rattle.sff.specs.Reads.{readsFrom, readsIn, readsReading}
 use Rattle.sff.specs.Flow.{flowOf, flowReading}
 use Rattle.sff.proofs.header.Laws.{header-known}
 use Rattle.sff.proofs.walk.Laws.{next-ok, before-walked, before-is, walk-none}
 use Rattle.sff.proofs.walk.Reach.{present-reach, framing-reach, skip-reach, walk-reach}
 use Rattle.sff.proofs.walk.Split.{walk-split, Nth, nth}
 use Rattle.sff.proofs.lookup.Laws.{number-fits}
-use Rattle.sff.proofs.places.Numbered.{listed-ok, here, starts-here, passed-here}
 
 mark-none : (a b : ℕ) (s : List ℕ) → reach (markCheck a b) s ≡ 0
 unfolding markCheck
@@ -108,7 +108,7 @@ contents-under : (x f : ℕ) (d : ReadHeader) (l s : List ℕ) → reach (readCo
 unfolding readContents clipsCheck stepsCheck
 contents-under x f d l s = search (reach-pick-under, reach-under, reach-must-under, reach-done-under) depth 12
 
-from-under : (x f p : ℕ) (s : List ℕ) (e : ℕ) → answer (framing f p) s ≡ ok e → e ≤ x → reach (readFrom f p) s ≤ x
+pub from-under : (x f p : ℕ) (s : List ℕ) (e : ℕ) → answer (framing f p) s ≡ ok e → e ≤ x → reach (readFrom f p) s ≤ x
 unfolding framing readFrom
 from-under x f p s e w h =
     let a = bind-ok _ _ s e w in
@@ -127,15 +127,15 @@ module _ (s : List ℕ) (x : ℕ) (k : Whole s x) where
     before-ok : answer (walk d (n - 1) 0 (front d)) s ≡ ok before
     low : max (d .«header_length») (reach (walk d (n - 1) 0 (front d)) s) ≤ x
     rest : Passage
-    rest-ok : (i : ℕ) → answer (walk d (left d n) i (before .behind)) s ≡ ok rest
+    rest-ok : (i : ℕ) → answer (walk d (leftFrom (d .reads) n) i (before .behind)) s ≡ ok rest
     within : rest .behind .position ≤ x
 
   parts : (n : ℕ) → 1 ≤ n → n ≤ d .reads → Parts n
   parts n a b =
-      let q : d .reads ≡ n - 1 + left d n = omega arith in
-      let g = walk-split d s (n - 1) (left d n) 0 (front d) (k .reads) (subst (λ (m : ℕ). answer (walk d m 0 (front d)) s ≡ ok (k .reads)) q (k .reads-ok)) in
+      let q : d .reads ≡ n - 1 + leftFrom (d .reads) n = omega arith in
+      let g = walk-split d s (n - 1) (leftFrom (d .reads) n) 0 (front d) (k .reads) (subst (λ (m : ℕ). answer (walk d m 0 (front d)) s ≡ ok (k .reads)) q (k .reads-ok)) in
       let u = walk-reach d s (n - 1) 0 (front d) (g .first) (g .first-ok 0) in
-      let v = walk-reach d s (left d n) 0 (g .first .behind) (g .rest) (g .rest-ok 0) in
+      let v = walk-reach d s (leftFrom (d .reads) n) 0 (g .first .behind) (g .rest) (g .rest-ok 0) in
       let z : k .reads .behind .position ≡ g .rest .behind .position = ap (λ (y : Boundary). y .position) (g .behind) in
       let e = k .extends in
       record { before = g .first; before-ok = g .first-ok 0; low = omega (arith, u, v, z, e); rest = g .rest; rest-ok = g .rest-ok; within = omega (arith, z, e) }
@@ -156,9 +156,9 @@ module _ (s : List ℕ) (x : ℕ) (k : Whole s x) where
       (p, ok-inj (sym (before-is d n s (p .before) (g .0) (g .1) (p .before-ok)) ∙ e))
 
   -- read j of those from number n on ends within the extent
-  nth-within : (n : ℕ) (p : Parts n) (j : ℕ) → j < left d n → (q : Nth d s j (p .before .behind) (p .rest)) × (q .read .behind .position ≤ x)
+  nth-within : (n : ℕ) (p : Parts n) (j : ℕ) → j < leftFrom (d .reads) n → (q : Nth d s j (p .before .behind) (p .rest)) × (q .read .behind .position ≤ x)
   nth-within n p j h =
-      let q = nth d s (left d n) j (p .before .behind) (p .rest) h (p .rest-ok 0) in
+      let q = nth d s (leftFrom (d .reads) n) j (p .before .behind) (p .rest) h (p .rest-ok 0) in
       (q, omega (arith, q .within, p .within))
 
   read-in-under : (n : ℕ) → reach (readIn d n) s ≤ x
@@ -177,23 +177,34 @@ module _ (s : List ℕ) (x : ℕ) (k : Whole s x) where
       reach-under x _ _ s (omega (arith, r, m, t, q .1)) (λ c i.
       subst (λ (z : Boundary). reach (readFrom (d .flows) (z .position)) s ≤ x) (ok-inj (sym (o .skip-ok) ∙ i)) (subst (λ (z : ℕ). reach (readFrom (d .flows) z) s ≤ x) (sym (o .start)) f)))
 
-  places-in-under : (n room : ℕ) → reach (placesIn d n room) s ≤ x
-  unfolding placesIn placesFrom
-  places-in-under n room =
-      reach-under x _ _ s (before-under n) (λ b e.
-      let p = before-same n b e in
-      let v = walk-reach d s (left d n) (n - 1) (p .0 .before .behind) (p .0 .rest) (p .0 .rest-ok (n - 1)) in
-      let z = subst (λ (y : Boundary). max (y .position) (reach (walk d (left d n) (n - 1) y) s) ≡ p .0 .rest .behind .position) (p .1) v in
-      reach-under x _ _ s (rw (reach-at 0 (walk d (left d n) (n - 1) b) s) (omega (arith, z, p .0 .within))) (λ _ _.
-      reach-under x _ _ s (reach-must-under x _ _ _ s) (λ _ _. reach-done-under x _ s)))
+  reads-from-under : (n i : ℕ) → i + n ≤ d .reads → reach (readsFrom d n i) s ≤ x
+  unfolding readsFrom
+  reads-from-under n i h =
+      let q : d .reads ≡ i + n + (d .reads - (i + n)) = omega arith in
+      let g = walk-split d s (i + n) (d .reads - (i + n)) 0 (front d) (k .reads) (subst (λ (m : ℕ). answer (walk d m 0 (front d)) s ≡ ok (k .reads)) q (k .reads-ok)) in
+      let u = walk-reach d s (i + n) 0 (front d) (g .first) (g .first-ok 0) in
+      let v = walk-reach d s (d .reads - (i + n)) 0 (g .first .behind) (g .rest) (g .rest-ok 0) in
+      let z : k .reads .behind .position ≡ g .rest .behind .position = ap (λ (y : Boundary). y .position) (g .behind) in
+      let e = k .extends in
+      reach-under x _ _ s (rw (reach-at 0 (walk d (i + n) 0 (front d)) s) (omega (arith, u, v, z, e))) (λ w o.
+      let t : g .first ≡ w = ok-inj (sym (g .first-ok 0) ∙ at-ok 0 _ s w o) in
+      let p : w .behind .position ≤ x = subst (λ (y : Passage). y .behind .position ≤ x) t (omega (arith, v, z, e)) in
+      reach-under x _ _ s (reach-need-under x _ _ s p) (λ _ _. reach-done-under x _ s))
+
+  reads-in-under : (first room : ℕ) → reach (readsIn d first room) s ≤ x
+  unfolding readsIn holds
+  reads-in-under first room =
+      reach-under x _ _ s (reach-must-under x _ _ _ s) (λ u q.
+      let i = number-within first (d .reads) (must-ok _ _ 7 s u q) in
+      reach-under x _ _ s (reach-must-under x _ _ _ s) (λ _ _. reads-from-under (fitting 17 (leftFrom (d .reads) first) room) (first - 1) (omega arith)))
 
 pub number-under : (n : ℕ) (s : List ℕ) (x : ℕ) → answer judging s ≡ ok x → reach (readReading n) s ≤ x
 unfolding readReading
 number-under n s x w = after-header (λ d. readIn d n) s x w (read-in-under s x (whole s x w) n)
 
-pub places-under : (n room : ℕ) (s : List ℕ) (x : ℕ) → answer judging s ≡ ok x → reach (placesReading n room) s ≤ x
-unfolding placesReading
-places-under n room s x w = after-header (λ d. placesIn d n room) s x w (places-in-under s x (whole s x w) n room)
+pub reads-under : (first room : ℕ) (s : List ℕ) (x : ℕ) → answer judging s ≡ ok x → reach (readsReading first room) s ≤ x
+unfolding readsReading
+reads-under first room s x w = after-header (λ d. readsIn d first room) s x w (reads-in-under s x (whole s x w) first room)
 
 -- the steps of a read that is answered lie within the extent
 steps-under : (n : ℕ) (s : List ℕ) (x : ℕ) → answer judging s ≡ ok x → (r : Read) → answer (readReading n) s ≡ ok r → r .«steps_start» + r .bases ≤ x
@@ -208,26 +219,3 @@ flow-under n i s x w =
     reach-under x _ _ s (number-under n s x w) (λ r e.
     reach-under x _ _ s (reach-must-under x _ _ _ s) (λ _ _.
     reach-under x _ _ s (reach-need-under x _ _ s (steps-under n s x w r e)) (λ _ _. reach-done-under x _ s)))
-
--- the read at a place that is given for the file
-pub at-under : (p : ℕ) (s : List ℕ) (x : ℕ) → answer judging s ≡ ok x → Given s p → reach (readAtReading p) s ≤ x
-unfolding readAtReading
-at-under p s x w v =
-    let k = whole s x w in
-    let g = listed-ok s (v .first) (v .room) (v .places) (v .answered) in
-    let n = here s (v .first) (v .places) g (v .index) (v .among) in
-    let o = passed-here s (v .first) (v .places) g (v .index) (v .among) in
-    let e = starts-here s (v .first) (v .places) g (v .index) (v .among) in
-    let h : k .head ≡ g .head = ok-inj (sym (k .head-ok) ∙ g .head-ok) in
-    let b = before-same s x k (v .first) (g .before) (subst (λ (d : Header). answer (beforeRead d (v .first)) s ≡ ok (g .before)) (sym h) (g .before-ok)) in
-    let z = same-rest h b (g .reads-ok 0) in
-    let f = from-under x (g .head .flows) (n .read .start) s _ (o .framing-ok) (omega (arith, n .within, z)) in
-    reach-under x header _ s (header-under s x w) (λ d q.
-    subst (λ (y : Header). reach (readFrom (y .flows) p) s ≤ x) (ok-inj (sym (g .head-ok) ∙ q)) (subst (λ (i : ℕ). reach (readFrom (g .head .flows) i) s ≤ x) (sym e ∙ v .here) f))
-  where
-    same-rest : {d : Header} {r : Passage} {c : Boundary} → (h : whole s x w .head ≡ d) → (b : (p : Parts s x (whole s x w) (v .first)) × (p .before .behind ≡ c)) → answer (walk d (left d (v .first)) 0 c) s ≡ ok r → r .behind .position ≤ x
-    same-rest {d} {r} {c} h b q =
-        let k = whole s x w in
-        let u = subst (λ (y : Header). answer (walk y (left y (v .first)) 0 c) s ≡ ok r) (sym h) q in
-        let t = subst (λ (y : Boundary). answer (walk (k .head) (left (k .head) (v .first)) 0 y) s ≡ ok (b .0 .rest)) (b .1) (b .0 .rest-ok 0) in
-        subst (λ (y : Passage). y .behind .position ≤ x) (ok-inj (sym t ∙ u)) (b .0 .within)

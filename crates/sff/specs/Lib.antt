@@ -6,5 +6,5 @@ pub mod Judge
 pub mod Clips
 pub mod Steps
 pub mod Lookup
-pub mod Places
+pub mod Reads
 pub mod Flow

@@ -1,4 +1,4 @@
--- SFF: read k, and the read that starts at a place.
+-- SFF: read k.
 -- Assumes nothing.
 use Prim.Native.Nat.{ℕ, _+_, _*_}
 use mathlib.Core.List.{List}
@@ -64,12 +64,6 @@ unfoldable pub readReading : ℕ → Check Read
 readReading k = do
   d ← header
   readIn d k
-
--- the read that starts at place p, whatever stands there
-unfoldable pub readAtReading : ℕ → Check Read
-readAtReading p = do
-  d ← header
-  readFrom (d .flows) p
 
 -- the answer of document 01 that each case stands for
 abbrev pub found : Found → Answer Read

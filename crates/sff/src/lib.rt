@@ -1,12 +1,12 @@
-// SFF files over lent bytes: judging, the header, and reads by number or by place.
+// SFF files over lent bytes: judging, the header, and reads by number, one or many.
 pub mod clips;
 pub mod flow;
 pub mod header;
 pub mod judge;
 pub mod lookup;
 pub mod padding;
-pub mod places;
 pub mod position;
 pub mod read;
+pub mod reads;
 pub mod steps;
 pub(crate) mod walk;

@@ -1,4 +1,4 @@
-// A read, by its number or by its place.
+// A read, by its number.
 use crate::clips::clips_hold;
 use crate::clips::first_base;
 use crate::clips::last_base;
@@ -24,7 +24,7 @@ ghost use Rattle.reading.specs.Check.{answer, mapAnswer};
 ghost use Rattle.reading.specs.Part.{shown, handedBack};
 ghost use Rattle.sff.specs.Clips.{insertFrom};
 ghost use Rattle.sff.specs.Read.{stepsStart};
-ghost use Rattle.sff.specs.Lookup.{readOf, readContents, readFrom, readIn, readReading, readAtReading, found, spanOf};
+ghost use Rattle.sff.specs.Lookup.{readOf, readContents, readFrom, readIn, readReading, found, spanOf};
 
 // All that is told of a read: its header's fields, where its parts start, and the first and last base of its insert.
 pub struct Read {
@@ -132,7 +132,7 @@ fn read_present(l: &[u8], flows: u16, d: ReadHeader) -> Found
     Found::Refused(11)
 }
 
-fn read_from(s: &[u8], flows: u16, p: usize) -> Found
+pub(crate) fn read_from(s: &[u8], flows: u16, p: usize) -> Found
     requires { ⌜ p ≤ length (now s) ⌝ }
     ensures { λ r. ⌜ found r ≡ answer (readFrom flows p) (now (s .entry)) ⌝ }
 {
@@ -168,22 +168,6 @@ pub fn read_number(s: &[u8], k: u64) -> Found
     match read_fields(s) {
         Opened::Refused(n) => Found::Refused(n),
         Opened::At(d) => read_in(s, d, k),
-    }
-}
-
-// The read that starts at this place, whatever stands there.
-pub fn read_at(s: &[u8], start: u64) -> Found
-    ensures { λ r. ⌜ found r ≡ answer (readAtReading start) (now (s .entry)) ⌝ }
-{
-    match read_fields(s) {
-        Opened::Refused(n) => Found::Refused(n),
-        Opened::At(d) => {
-            let p = start as usize;
-            if s.len() < p {
-                return Found::Refused(1);
-            }
-            read_from(s, d.flows, p)
-        }
     }
 }
 
@@ -224,19 +208,6 @@ pub fn read_part(s: &[u8], k: u64, which: ReadPart) -> &[u8]
     ensures { λ r. ⌜ shown r ≡ handedBack (shown (s .entry)) (mapAnswer (spanOf which) (answer (readReading k) (now (s .entry)))) ⌝ }
 {
     match read_number(s, k) {
-        Found::Refused(_) => part(s, 0, 0),
-        Found::At(r) => {
-            let q = place_of(which, r);
-            part(s, q.start, q.size)
-        }
-    }
-}
-
-// The same of the read that starts at this place.
-pub fn read_part_at(s: &[u8], start: u64, which: ReadPart) -> &[u8]
-    ensures { λ r. ⌜ shown r ≡ handedBack (shown (s .entry)) (mapAnswer (spanOf which) (answer (readAtReading start) (now (s .entry)))) ⌝ }
-{
-    match read_at(s, start) {
         Found::Refused(_) => part(s, 0, 0),
         Found::At(r) => {
             let q = place_of(which, r);

@@ -13,7 +13,7 @@ use Rattle.reading.specs.Choice.{pick}
 use Rattle.reading.specs.Check.{Need, passed, failed, short, ok, refused, plain, run, answer, holds}
 use Rattle.reading.specs.Part.{Part, partOf, partWithin, Span}
 use Rattle.reading.proofs.Cut.{answer-plain, run-ok}
-use Rattle.reading.proofs.Steps.{answer-bind, answer-done, answer-need-absent}
+use Rattle.reading.proofs.Steps.{answer-bind, answer-done}
 use Rattle.reading.proofs.Passed.{bind-ok, done-ok, must-ok, stops-failed, stops-short, bind-answered}
 use Rattle.reading.proofs.Parts.{part-there}
 use Rattle.sff.specs.declared.header.Header.{Header}
@@ -29,7 +29,7 @@ use Rattle.sff.specs.Read.{readEnd, present, framing, stepsStart, letter
 use Rattle.sff.specs.Walk.{skipIndex, beforeRead}
 use Rattle.sff.specs.Clips.{clipsCheck, rightClip, firstBase, lastBase, insertFrom, insert}
 use Rattle.sff.specs.Steps.{stepsCheck}
-use Rattle.sff.specs.Lookup.{readOf, readContents, readFrom, readIn, readReading, readAtReading, spanOf}
+use Rattle.sff.specs.Lookup.{readOf, readContents, readFrom, readIn, readReading, spanOf}
 use Rattle.sff.proofs.padding.Laws.{padded-bounds}
 use Rattle.sff.proofs.read.Laws.{fields, present-there}
 
@@ -120,18 +120,8 @@ number-fits s k r w =
     let c = bind-ok _ _ s r (b .2) in
     read-fits s (a .0 .flows) (c .0 .position) r (c .2)
 
-pub at-fits : (s : List ℕ) (p : ℕ) (r : Read) → answer (readAtReading p) s ≡ ok r → Within s r
-unfolding readAtReading
-at-fits s p r w =
-    let a = bind-ok _ _ s r w in
-    read-fits s (a .0 .flows) p r (a .2)
-
 -- the read at a place, from where it ends
 module _ (f p : ℕ) (s : List ℕ) where
-  pub from-past : length s < p → refused 1 0 ≡ answer (readFrom f p) s
-  unfolding readFrom present
-  from-past h = simp (answer-bind, answer-need-absent p (p + 16) s (omega arith))
-
   pub from-failed : (t : Test) → run (framing f p) s ≡ failed t 0 → refused (t .number) 0 ≡ answer (readFrom f p) s
   unfolding framing readFrom
   from-failed t h = sym (answer-plain _ s ∙ ap plain (stops-failed (present f p) (λ r. readEnd f (r .fields)) (λ r. readContents f (r .fields) (r .upTo)) s t 0 h))

@@ -101,6 +101,14 @@ module _ (d : Header) (i : ℕ) (b : Boundary) (s : List ℕ) where
 pub next-passed-within : (d : Header) (i : ℕ) (b : Boundary) (s : List ℕ) (r : Placed) → run (nextRead d i b) s ≡ passed r → r .behind .position ≤ length s
 next-passed-within d i b s r h = next-within d b s i r (run-ok _ s r h)
 
+-- and the read starts there
+pub next-passed-start : (d : Header) (i : ℕ) (b : Boundary) (s : List ℕ) (r : Placed) → b .position ≤ length s → run (nextRead d i b) s ≡ passed r → r .start ≤ length s
+unfolding nextRead
+next-passed-start d i b s r l h =
+    let a = bind-ok _ _ s r (run-ok _ s r h) in
+    let e = bind-ok _ _ s r (a .2) in
+    subst (λ (x : Placed). x .start ≤ length s) (done-ok _ _ s (e .2)) (skip-within d b s (a .0) l (a .1))
+
 -- and so does the walk
 pub walk-within : (d : Header) (s : List ℕ) (n i : ℕ) (b : Boundary) → b .position ≤ length s → (w : Passage) → answer (walk d n i b) s ≡ ok w → w .behind .position ≤ length s
 unfolding walk

@@ -69,7 +69,7 @@ module _ (d : Header) (s : List ℕ) where
       subst (λ (j : ℕ). answer (walk d j i b) s ≡ ok (record { starts = v .starts ++ u .starts; behind = u .behind })) (sym q) (simp (answer-bind, a .1, g, answer-done) (ap (λ (x : Passage). ok (record { starts = x .starts ++ u .starts; behind = u .behind })) z))
 
   -- the boundary behind n reads: behind the first m, then behind the others
-  past-plus : (m n i : ℕ) (b : Boundary) → run (walkPast d (m + n) i b) s ≡ then (run (walkPast d m i b) s) (λ c. run (walkPast d n (i + m) c) s)
+  pub past-plus : (m n i : ℕ) (b : Boundary) → run (walkPast d (m + n) i b) s ≡ then (run (walkPast d m i b) s) (λ c. run (walkPast d n (i + m) c) s)
   past-plus zero n i b = ap (λ (k : ℕ). run (walkPast d k i b) s) (zero-add n) ∙ ap (λ (k : ℕ). run (walkPast d n k b) s) (sym (add-zero i)) ∙ ap (λ (o : Outcome Boundary). then o (λ c. run (walkPast d n (i + 0) c) s)) (past-end d i b s)
   past-plus (suc m) n i b = ap (λ (k : ℕ). run (walkPast d k i b) s) q ∙ go (past-plus m n (i + 1)) (run (nextRead d i b) s) refl
     where
@@ -85,11 +85,6 @@ module _ (d : Header) (s : List ℕ) where
           past-next d i b s r h (i + 1) refl (m + n) ∙ g (r .behind) ∙ ap (λ (k : ℕ). then (run (walkPast d m (i + 1) (r .behind)) s) (λ c. run (walkPast d n k c) s)) e ∙ ap (λ (o : Outcome Boundary). then o f) (sym (past-next d i b s r h (i + 1) refl m))
       go g (failed t e) h = past-failed d i b s t e h (m + n) ∙ ap (λ (o : Outcome Boundary). then o f) (sym (past-failed d i b s t e h m))
       go g (short k e) h = past-short d i b s k e h (m + n) ∙ ap (λ (o : Outcome Boundary). then o f) (sym (past-short d i b s k e h m))
-
-  pub past-parts : (m n i : ℕ) (b : Boundary) → m ≤ n → (o : Outcome Boundary) → run (walkPast d m i b) s ≡ o → run (walkPast d n i b) s ≡ then o (λ c. run (walkPast d (n - m) (i + m) c) s)
-  past-parts m n i b l o h =
-      let q : n ≡ m + (n - m) = omega arith in
-      ap (λ (k : ℕ). run (walkPast d k i b) s) q ∙ past-plus m (n - m) i b ∙ ap (λ (x : Outcome Boundary). then x (λ c. run (walkPast d (n - m) (i + m) c) s)) h
 
   -- read j of a walk, counted from 0: what is walked before it, and the read
   pub record Nth (j : ℕ) (b : Boundary) (w : Passage) : Type 0 where

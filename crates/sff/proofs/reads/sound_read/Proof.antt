@@ -1,9 +1,9 @@
 use mathlib.Core.Path.{sym, _∙_, ap}
 use borrow.Author.Needs.{needs}
 use Rattle.sff.specs.Walk.{stepped}
-use Rattle.sff.proofs.places.Laws.{not-failed, not-short}
-use Rattle.sff.proofs.places.sound_read.Statement.{statement}
-use Rattle.sff.proofs.places.sound_read.Tie as tie
+use Rattle.sff.proofs.reads.Laws.{not-failed, not-short}
+use Rattle.sff.proofs.reads.sound_read.Statement.{statement}
+use Rattle.sff.proofs.reads.sound_read.Tie as tie
 
 next-read-requires : tie.Need-next-read-requires
 next-read-requires c κs = search needs

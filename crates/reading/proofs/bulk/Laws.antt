@@ -1,0 +1,49 @@
+-- Numbers put side by side into a lent list, and the items of a bulk call.
+-- Assumes nothing.
+use Prim.Native.Nat.{ℕ, suc, _+_, _≤_}
+use mathlib.Core.Path.{_≡_, refl, _∙_, ap}
+use mathlib.Core.List.{List, [], _∷_, _++_}
+use native.Mathlib.Nat.{add-zero}
+use native.Mathlib.Omega.{arith}
+use lib.ListN.{length, set, drop}
+use lib.Seq.{sets, length-sets}
+use borrow.Author.Tests.{le-leb}
+use Rattle.reading.specs.Check.{Check, Answer, ok, refused, answer}
+use Rattle.reading.specs.Bulk.{answersFrom, OfItem, answered, forbidden, placed}
+
+sets-append : (xs ys l : List ℕ) (i : ℕ) → sets (sets l i xs) (i + length xs) ys ≡ sets l i (xs ++ ys)
+sets-append [] ys l i = ap (λ (k : ℕ). sets l k ys) (add-zero i)
+sets-append (x ∷ xs) ys l i =
+    let e : i + suc (length xs) ≡ suc i + length xs = omega arith in
+    ap (λ (k : ℕ). sets (sets (set l i x) (suc i) xs) k ys) e ∙ sets-append xs ys (set l i x) (suc i)
+
+-- the numbers ys behind the numbers xs that stand from place p on
+pub set-behind : (o u v : List ℕ) (p : ℕ) (xs ys : List ℕ) → u ≡ sets o p xs → v ≡ sets u (p + length xs) ys → v ≡ sets o p (xs ++ ys)
+set-behind o u v p xs ys e f = f ∙ ap (λ (x : List ℕ). sets x (p + length xs) ys) e ∙ sets-append xs ys o p
+
+pub put-behind : (o u v : List ℕ) (p : ℕ) (xs ys : List ℕ) → u ≡ sets o p xs → v ≡ placed u (p + length xs) ys → p + length xs + length ys ≤ length o → v ≡ sets o p (xs ++ ys)
+put-behind o u v p xs ys e f h =
+    let l : length u ≡ length o = ap length e ∙ length-sets o p xs in
+    set-behind o u v p xs ys e (f ∙ rw (le-leb (p + length xs + length ys) (length u) (omega arith)))
+
+-- numbers that stand alone
+pub put-front : (o u : List ℕ) (p : ℕ) (xs : List ℕ) → u ≡ placed o p xs → p + length xs ≤ length o → u ≡ sets o p xs
+put-front o u p xs e h = e ∙ rw (le-leb (p + length xs) (length o) h)
+
+-- the items that are answered one by one
+pub answers-are : {A : Type 0} (t : ℕ → Check A) (s : List ℕ) (v : List (Answer A)) (first : ℕ) → ((j : ℕ) (r : Answer A) (l : List (Answer A)) → drop j v ≡ r ∷ l → r ≡ answer (t (first + j)) s) → v ≡ answersFrom t s first (length v)
+answers-are t s [] first h = refl
+answers-are {A} t s (a ∷ v) first h =
+    let e : a ≡ answer (t first) s = h 0 a v refl ∙ ap (λ (k : ℕ). answer (t k) s) (add-zero first) in
+    let f = answers-are t s v (first + 1) (λ j r l q. h (suc j) r l q ∙ ap (λ (k : ℕ). answer (t k) s) (next first j)) in
+    λ i. e i ∷ f i
+  where
+    next : (m j : ℕ) → m + suc j ≡ m + 1 + j
+    next m j = omega arith
+
+-- an answer that is refused with 11 alone
+pub of-item : {A : Type 0} (a : Answer A) → ((n e : ℕ) → a ≡ refused n e → (n ≡ 11) × (e ≡ 0)) → OfItem a
+of-item (ok b) h = answered b
+of-item (refused n e) h =
+    let q = h n e refl in
+    rw (q .0, q .1) forbidden

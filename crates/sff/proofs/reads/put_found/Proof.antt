@@ -1,0 +1,50 @@
+use Rattle.reading.specs.Bulk.{recordOf}
+use Rattle.sff.proofs.reads.put_found.Statement.{statement}
+use Rattle.sff.proofs.reads.put_found.Tie as tie
+use Rattle.sff.proofs.reads.put_read.Reads as put-read-reads
+use Rattle.sff.proofs.reads.put_refused.Reads as put-refused-reads
+use Rattle.sff.specs.Lookup.{found}
+use Rattle.sff.specs.Reads.{readNumbers}
+use Rattle.sff.specs.declared.lookup.Found.{Found}
+use borrow.Author.Needs.{needs}
+use lib.Seq.{sets}
+use mathlib.Core.Path.{_∙_, sym, ap}
+
+enum-known-f : tie.Need-enum-known-f
+enum-known-f c = search needs
+
+put-read-requires : tie.Need-put-read-requires
+put-read-requires c κs = search needs
+
+enum-known-f-2 : tie.Need-enum-known-f-2
+enum-known-f-2 c = search needs
+
+put-refused-requires : tie.Need-put-refused-requires
+put-refused-requires c κs = search needs
+
+same-length : tie.Need-same-length
+same-length c = search needs
+
+returns : tie.Need-returns
+returns c = let g = c .before .before .before .before .before .before .before .before .args in
+    c .before .before .put-read .ensures ∙ ap (λ (x : Found). sets (g .out .now) (g .p) (recordOf 17 readNumbers (found x))) (sym (c .before .before .before .before .before .f .given .1))
+
+same-length-2 : tie.Need-same-length-2
+same-length-2 c = search needs
+
+returns-2 : tie.Need-returns-2
+returns-2 c = let g = c .before .before .before .before .before .before .before .before .args in
+    c .before .before .put-refused .ensures ∙ ap (λ (x : Found). sets (g .out .now) (g .p) (recordOf 17 readNumbers (found x))) (sym (c .before .before .before .before .before .f2 .given .1))
+
+pub put-found-spec : {M : Type 1} → statement M
+put-found-spec =
+    tie.close
+    (tie.spec
+    enum-known-f
+    put-read-requires
+    enum-known-f-2
+    put-refused-requires
+    same-length
+    returns
+    same-length-2
+    returns-2)

@@ -1,0 +1,204 @@
+// Reads, many at once.
+use crate::header::Header;
+use crate::header::Opened;
+use crate::header::read_fields;
+use crate::lookup::Found;
+use crate::lookup::Read;
+use crate::lookup::read_from;
+use crate::walk::Boundary;
+use crate::walk::Step;
+use crate::walk::Walked;
+use crate::walk::next_read;
+use crate::walk::walk;
+use reading::bulk::Listed;
+use reading::bulk::put_four;
+use reading::bulk::smaller;
+ghost use mathlib.Core.Path.{_≡_};
+ghost use mathlib.Core.List.{_++_};
+ghost use Prim.Native.Nat.{_+_, _*_, _≤_, _<_};
+ghost use lib.ListN.{length, take, drop};
+ghost use lib.Seq.{sets};
+ghost use Rattle.reading.specs.Check.{passed, ok, refused, run, answer, mapAnswer};
+ghost use Rattle.reading.specs.Lent.{filled};
+ghost use Rattle.reading.specs.Bulk.{recordOf, records, listed};
+ghost use Rattle.sff.specs.Walk.{Placed, Passage, nextRead, walk as walking};
+ghost use Rattle.sff.specs.Lookup.{found};
+ghost use Rattle.sff.specs.Reads.{readsAt, readsFrom, readsIn, readsReading, readNumbers};
+
+// A sound read's place, with the boundary behind it.
+struct Sound {
+    start: usize,
+    behind: Boundary,
+}
+
+// The next read, where a walk has found it sound, so that only the first arm can happen.
+fn sound_read(s: &[u8], d: Header, b: Boundary) -> Sound
+    requires { ⌜ (b .position ≤ length (now s)) × ((r : Placed) × (run (nextRead d 0 b) (now s) ≡ passed r)) ⌝ }
+    ensures { λ q. ⌜ run (nextRead d 0 b) (now (s .entry)) ≡ passed (record { start = q .start; behind = q .behind }) ⌝ }
+{
+    match next_read(s, d, b) {
+        Step::Next(start, behind) => Sound { start, behind },
+        Step::Bad(_) => Sound {
+            start: 0,
+            behind: b,
+        },
+        Step::Short(_, _) => Sound {
+            start: 0,
+            behind: b,
+        },
+        Step::ShortIndex(_, _) => Sound {
+            start: 0,
+            behind: b,
+        },
+    }
+}
+
+// The first nine numbers of the record of a read that is answered, from place p of the output on: no refusal, and its header.
+fn put_header(out: &mut [u64], p: usize, r: Read)
+    requires { ⌜ p + 9 ≤ length (now out) ⌝ }
+    ensures { λ _. ⌜ now (out .exit) ≡ sets (now (out .entry)) p (take 9 (recordOf 17 readNumbers (ok r))) ⌝ }
+{
+    out[p] = 0;
+    put_four(
+        out,
+        p + 1,
+        r.start as u64,
+        r.name_start as u64,
+        r.name_length as u64,
+        r.bases as u64,
+    );
+    put_four(
+        out,
+        p + 5,
+        r.quality_left as u64,
+        r.quality_right as u64,
+        r.adapter_left as u64,
+        r.adapter_right as u64,
+    );
+}
+
+// The other eight: where its parts start, and its insert.
+fn put_parts(out: &mut [u64], p: usize, r: Read)
+    requires { ⌜ p + 8 ≤ length (now out) ⌝ }
+    ensures { λ _. ⌜ now (out .exit) ≡ sets (now (out .entry)) p (drop 9 (recordOf 17 readNumbers (ok r))) ⌝ }
+{
+    put_four(
+        out,
+        p,
+        r.flows_start as u64,
+        r.steps_start as u64,
+        r.letters_start as u64,
+        r.qualities_start as u64,
+    );
+    let first = r.first;
+    let last = r.last;
+    put_four(
+        out,
+        p + 4,
+        first.0,
+        last.0,
+        r.insert_start as u64,
+        r.insert_length as u64,
+    );
+}
+
+fn put_read(out: &mut [u64], p: usize, r: Read)
+    requires { ⌜ p + 17 ≤ length (now out) ⌝ }
+    ensures { λ _. ⌜ now (out .exit) ≡ sets (now (out .entry)) p (recordOf 17 readNumbers (ok r)) ⌝ }
+{
+    put_header(out, p, r);
+    put_parts(out, p + 9, r);
+}
+
+// The record of a read that is refused.
+fn put_refused(out: &mut [u64], p: usize, n: u8)
+    requires { ⌜ p + 17 ≤ length (now out) ⌝ }
+    ensures { λ _. ⌜ now (out .exit) ≡ sets (now (out .entry)) p (recordOf 17 readNumbers (refused n 0)) ⌝ }
+{
+    out[p] = n as u64;
+    put_four(out, p + 1, 0, 0, 0, 0);
+    put_four(out, p + 5, 0, 0, 0, 0);
+    put_four(out, p + 9, 0, 0, 0, 0);
+    put_four(out, p + 13, 0, 0, 0, 0);
+}
+
+fn put_found(out: &mut [u64], p: usize, f: Found)
+    requires { ⌜ p + 17 ≤ length (now out) ⌝ }
+    ensures { λ _. ⌜ now (out .exit) ≡ sets (now (out .entry)) p (recordOf 17 readNumbers (found f)) ⌝ }
+{
+    match f {
+        Found::At(r) => put_read(out, p, r),
+        Found::Refused(n) => put_refused(out, p, n),
+    }
+}
+
+// The records of n reads behind boundary b, which a walk has found sound, at the output's front.
+fn put_reads(s: &[u8], d: Header, n: usize, b: Boundary, out: &mut [u64])
+    requires { ⌜ (b .position ≤ length (now s)) × (17 * n ≤ length (now out)) × ((w : Passage) × (answer (walking d n 0 b) (now s) ≡ ok w)) ⌝ }
+    ensures { λ _. ⌜ ((w : Passage) → answer (walking d n 0 b) (now (s .entry)) ≡ ok w → now (out .exit) ≡ records 17 readNumbers (readsAt (d .flows) (now (s .entry)) (w .starts)) ++ drop (17 * n) (now (out .entry))) ⌝ }
+{
+    let mut here = b;
+    let mut p = 0;
+    let mut i = 0;
+    while i < n {
+        let read = sound_read(s, d, here);
+        put_found(out, p, read_from(s, d.flows, read.start));
+        here = read.behind;
+        p += 17;
+        i += 1;
+    }
+}
+
+// The n reads from read i on, counted from 0: walked to the last of them, then written.
+fn reads_from(s: &[u8], d: Header, n: usize, i: usize, out: &mut [u64]) -> Listed
+    requires { ⌜ (d .«header_length» ≤ length (now s)) × (i + n < 0x8000000000000000) × (17 * n ≤ length (now out)) ⌝ }
+    ensures { λ r. ⌜ listed r ≡ mapAnswer length (answer (readsFrom d n i) (now (s .entry))) ⌝ }
+    ensures { λ _. ⌜ now (out .exit) ≡ filled (mapAnswer (records 17 readNumbers) (answer (readsFrom d n i) (now (s .entry)))) (now (out .entry)) ⌝ }
+{
+    let front = Boundary {
+        position: d.header_length as usize,
+        met: false,
+    };
+    match walk(s, d, i, 0, front) {
+        Walked::Bad(test, _) => Listed::Refused(test.number),
+        Walked::Short(_, _, _) => Listed::Refused(1),
+        Walked::Behind(b) => match walk(s, d, n, i, b) {
+            Walked::Bad(test, _) => Listed::Refused(test.number),
+            Walked::Short(_, _, _) => Listed::Refused(1),
+            Walked::Behind(_) => {
+                put_reads(s, d, n, b, out);
+                Listed::Count(n as u64)
+            }
+        },
+    }
+}
+
+fn reads_in(s: &[u8], d: Header, first: u64, out: &mut [u64]) -> Listed
+    requires { ⌜ d .«header_length» ≤ length (now s) ⌝ }
+    ensures { λ r. ⌜ listed r ≡ mapAnswer length (answer (readsIn d first (length (now (out .entry)))) (now (s .entry))) ⌝ }
+    ensures { λ _. ⌜ now (out .exit) ≡ filled (mapAnswer (records 17 readNumbers) (answer (readsIn d first (length (now (out .entry)))) (now (s .entry)))) (now (out .entry)) ⌝ }
+{
+    if first < 1 {
+        return Listed::Refused(7);
+    }
+    if (d.reads as u64) < first {
+        return Listed::Refused(7);
+    }
+    if out.len() < 17 {
+        return Listed::Refused(13);
+    }
+    let before = (first - 1) as usize;
+    let n = smaller(d.reads as usize - before, out.len() / 17);
+    reads_from(s, d, n, before, out)
+}
+
+// The reads from number `first` on, as many as are left and as fit, at the output's front: 17 numbers for each.
+pub fn read_many(s: &[u8], first: u64, out: &mut [u64]) -> Listed
+    ensures { λ r. ⌜ listed r ≡ mapAnswer length (answer (readsReading first (length (now (out .entry)))) (now (s .entry))) ⌝ }
+    ensures { λ _. ⌜ now (out .exit) ≡ filled (mapAnswer (records 17 readNumbers) (answer (readsReading first (length (now (out .entry)))) (now (s .entry)))) (now (out .entry)) ⌝ }
+{
+    match read_fields(s) {
+        Opened::Refused(n) => Listed::Refused(n),
+        Opened::At(d) => reads_in(s, d, first, out),
+    }
+}
