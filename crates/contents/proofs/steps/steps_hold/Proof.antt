@@ -1,7 +1,7 @@
 use borrow.Author.Needs.{needs}
-use Rattle.sff.proofs.steps.Laws.{steps-none, steps-zero, steps-on}
-use Rattle.sff.proofs.steps.steps_hold.Statement.{statement}
-use Rattle.sff.proofs.steps.steps_hold.Tie as tie
+use Rattle.contents.proofs.steps.Laws.{steps-none, steps-zero, steps-on}
+use Rattle.contents.proofs.steps.steps_hold.Statement.{statement}
+use Rattle.contents.proofs.steps.steps_hold.Tie as tie
 
 returns : tie.Need-returns
 returns c l =

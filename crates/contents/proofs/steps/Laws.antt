@@ -16,7 +16,7 @@ use Rattle.reading.proofs.Fold.{Same, same-first, fold-same, window-length}
 use Rattle.reading.proofs.Loop.{Left}
 use Rattle.reading.proofs.Steps.{answer-bind, answer-must}
 use Rattle.reading.proofs.Width.{be-in-part, be-taken}
-use Rattle.sff.specs.Steps.{flowStep, sumsWithin, stepsCheck, stepSum, SumUpTo}
+use Rattle.contents.specs.Steps.{flowStep, sumsWithin, stepsCheck, stepSum, SumUpTo}
 
 -- steps with the sum t, then m more
 pub sum-start : (l : List ℕ) (n : ℕ) → Left (λ m. 0 + stepSum l 0 m) n 0 (stepSum l 0 n)

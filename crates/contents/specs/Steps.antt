@@ -1,4 +1,4 @@
--- SFF: the flow steps of a read.
+-- The flow steps of an SFF read.
 -- Assumes nothing.
 use Prim.Native.Nat.{ℕ, zero, suc, _+_, _*_, _≤_, _<_}
 use mathlib.Core.Path.{_≡_}

@@ -1,4 +1,4 @@
-// The flow steps of a read.
+// The flow steps of an SFF read.
 use reading::number::byte;
 ghost use mathlib.Core.Path.{_≡_};
 ghost use mathlib.Core.List.{List};
@@ -7,7 +7,7 @@ ghost use lib.Dec.{leb};
 ghost use lib.ListN.{length};
 ghost use Rattle.reading.specs.Choice.{pick};
 ghost use Rattle.reading.specs.Check.{answer, ok, refused};
-ghost use Rattle.sff.specs.Steps.{stepsCheck, stepSum, SumUpTo};
+ghost use Rattle.contents.specs.Steps.{stepsCheck, stepSum, SumUpTo};
 
 fn wide(b: u8) -> u16
     ensures { λ r. ⌜ (r ≡ b) × (r < 256) ⌝ }
@@ -59,9 +59,9 @@ fn sum_up_to(most: u64, steps: &[u8]) -> u64
     sum
 }
 
-pub(crate) fn sum_of(steps: &[u8]) -> u64
-    requires { ⌜ length (now steps) < 0x100000000 ⌝ }
-    ensures { λ r. ⌜ r ≡ stepSum (now (steps .entry)) 0 (length (now (steps .entry))) ⌝ }
+// The sum of steps, of which there are not so many that it would pass 2^48.
+pub fn sum_of(steps: &[u8]) -> u64
+    ensures { λ r. ⌜ SumUpTo 0x1000000000000 (now (steps .entry)) r ⌝ }
 {
     sum_up_to(0x1000000000000, steps)
 }

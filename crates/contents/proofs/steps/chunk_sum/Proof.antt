@@ -3,10 +3,10 @@ use mathlib.Core.Path.{sym, _∙_}
 use native.Mathlib.Omega.{arith}
 use borrow.Author.Needs.{needs}
 use Rattle.reading.proofs.Loop.{Left, left-next, left-end}
-use Rattle.sff.specs.Steps.{stepSum}
-use Rattle.sff.proofs.steps.Laws.{sum-start, sum-on, sum-end}
-use Rattle.sff.proofs.steps.chunk_sum.Statement.{statement}
-use Rattle.sff.proofs.steps.chunk_sum.Tie as tie
+use Rattle.contents.specs.Steps.{stepSum}
+use Rattle.contents.proofs.steps.Laws.{sum-start, sum-on, sum-end}
+use Rattle.contents.proofs.steps.chunk_sum.Statement.{statement}
+use Rattle.contents.proofs.steps.chunk_sum.Tie as tie
 
 abbrev Inv-loop : tie.InvT-loop
 Inv-loop steps n sum₀ i₀ sum i = (i ≤ n) × (sum ≤ 255 * i) × Left (λ m. sum + stepSum steps i m) n i (stepSum steps 0 n)

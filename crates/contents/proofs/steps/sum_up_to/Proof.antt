@@ -3,10 +3,10 @@ use mathlib.Core.Path.{_≡_}
 use native.Mathlib.Omega.{arith}
 use lib.ListN.{length-take, length-drop}
 use borrow.Author.Needs.{needs}
-use Rattle.sff.specs.Steps.{stepSum}
-use Rattle.sff.proofs.steps.Laws.{sum-begin, sum-chunk, sum-all}
-use Rattle.sff.proofs.steps.sum_up_to.Statement.{statement}
-use Rattle.sff.proofs.steps.sum_up_to.Tie as tie
+use Rattle.contents.specs.Steps.{stepSum}
+use Rattle.contents.proofs.steps.Laws.{sum-begin, sum-chunk, sum-all}
+use Rattle.contents.proofs.steps.sum_up_to.Statement.{statement}
+use Rattle.contents.proofs.steps.sum_up_to.Tie as tie
 
 abbrev Inv-loop : tie.InvT-loop
 Inv-loop most steps n sum₀ at₀ sum at = (at ≤ n) × (sum ≤ most) × (sum + stepSum steps at (n - at) ≡ stepSum steps 0 n) × (sum ≤ 65536 * at)

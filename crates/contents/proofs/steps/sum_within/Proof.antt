@@ -1,7 +1,7 @@
-use Rattle.sff.proofs.steps.Laws.{sum-tells}
+use Rattle.contents.proofs.steps.Laws.{sum-tells}
 use borrow.Author.Needs.{needs}
-use Rattle.sff.proofs.steps.sum_within.Statement.{statement}
-use Rattle.sff.proofs.steps.sum_within.Tie as tie
+use Rattle.contents.proofs.steps.sum_within.Statement.{statement}
+use Rattle.contents.proofs.steps.sum_within.Tie as tie
 
 sum-up-to-requires : tie.Need-sum-up-to-requires
 sum-up-to-requires c κs = search needs
