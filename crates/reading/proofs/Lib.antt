@@ -3,6 +3,7 @@ pub mod Steps
 pub mod Passed
 pub mod Explained
 pub mod Reach
+pub mod Refused
 pub mod Loop
 pub mod Fill
 pub mod Fold
