@@ -10,7 +10,6 @@ pub mod Fold
 pub mod Parts
 pub mod Product
 pub mod Signs
-pub mod Pair
 pub mod Bits
 pub mod Signed
 pub mod Floats
