@@ -65,5 +65,5 @@ noTransformation =
     }
 
 abbrev pub asTransformation : Answer Transformed → TransformationAnswer
-asTransformation (ok t) = record { refusal = 0; value = t .value }
-asTransformation (refused n e) = record { refusal = n; value = noTransformation }
+asTransformation (ok t) = record { refusal = 0; start = t .start; value = t .value }
+asTransformation (refused n e) = record { refusal = n; start = 0; value = noTransformation }

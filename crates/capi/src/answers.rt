@@ -135,9 +135,10 @@ pub struct Snp {
     pub y: u64,
 }
 
-// A transformation of a GTC file; every field of it is 0 where it is refused.
+// A transformation of a GTC file, with where its 52 bytes stand, so that the bits of a NaN can be had; every field of it is 0 where it is refused.
 #[repr(C)]
 pub struct TransformationAnswer {
     pub refusal: u64,
+    pub start: u64,
     pub value: Transformation,
 }

@@ -14,14 +14,16 @@ use gtc::snp;
 use gtc::snps;
 use gtc::transformation;
 use gtc::transformation::Transformation;
+use reading::bulk;
 ghost use mathlib.Core.Path.{_≡_};
 ghost use lib.ListN.{length};
 ghost use Rattle.reading.specs.Check.{answer, mapAnswer};
 ghost use Rattle.reading.specs.Lent.{filled};
+ghost use Rattle.reading.specs.Bulk.{records, listed};
 ghost use Rattle.gtc.specs.Judge.{judging, verdict};
 ghost use Rattle.gtc.specs.Lookup.{lookingUp, found};
 ghost use Rattle.gtc.specs.Snp.{snpReading, snpRead};
-ghost use Rattle.gtc.specs.Snps.{allNumbers, snpsReading, listed};
+ghost use Rattle.gtc.specs.Snps.{snpNumbers, snpsReading};
 ghost use Rattle.gtc.specs.Transformation.{transformationReading, transformationRead};
 ghost use Rattle.gtc.specs.Normalise.{normalised};
 ghost use Rattle.capi.specs.Answers.{asListed};
@@ -130,23 +132,23 @@ pub extern "C" fn jt_gtc_snp(s: &[u8], index: u64) -> Snp
     as_snp(snp::read_snp(s, index))
 }
 
-fn as_listed(n: snps::Listed) -> Listed
+fn as_listed(n: bulk::Listed) -> Listed
     ensures { λ r. ⌜ r ≡ asListed (listed n) ⌝ }
 {
     match n {
-        snps::Listed::Count(count) => Listed { refusal: 0, count },
-        snps::Listed::Refused(number) => Listed {
+        bulk::Listed::Count(count) => Listed { refusal: 0, count },
+        bulk::Listed::Refused(number) => Listed {
             refusal: number as u64,
             count: 0,
         },
     }
 }
 
-// Eight numbers for each SNP: the fields of its record behind `refusal`.
+// Nine numbers for each SNP: the fields of its record in their order.
 #[no_mangle]
 pub extern "C" fn jt_gtc_snps(s: &[u8], first: u64, out: &mut [u64]) -> Listed
     ensures { λ r. ⌜ r ≡ asListed (mapAnswer length (answer (snpsReading first (length (now (out .entry)))) (now (s .entry)))) ⌝ }
-    ensures { λ _. ⌜ now (out .exit) ≡ filled (mapAnswer allNumbers (answer (snpsReading first (length (now (out .entry)))) (now (s .entry)))) (now (out .entry)) ⌝ }
+    ensures { λ _. ⌜ now (out .exit) ≡ filled (mapAnswer (records 9 snpNumbers) (answer (snpsReading first (length (now (out .entry)))) (now (s .entry)))) (now (out .entry)) ⌝ }
 {
     as_listed(snps::read_snps(s, first, out))
 }
@@ -176,12 +178,14 @@ fn as_transformation(r: transformation::TransformationRead) -> TransformationAns
     ensures { λ t. ⌜ t ≡ asTransformation (transformationRead r) ⌝ }
 {
     match r {
-        transformation::TransformationRead::At { start: _, value } => TransformationAnswer {
+        transformation::TransformationRead::At { start, value } => TransformationAnswer {
             refusal: 0,
+            start: start as u64,
             value,
         },
         transformation::TransformationRead::Refused(n) => TransformationAnswer {
             refusal: n as u64,
+            start: 0,
             value: no_transformation(),
         },
     }

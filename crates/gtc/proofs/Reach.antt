@@ -1,6 +1,6 @@
 -- What the reading calls of GTC need: judging just the extent that it answers, and no other call more.
 -- Assumes nothing.
-use Prim.Native.Nat.{ℕ, zero, suc, _+_, _≤_, _<_, max, min}
+use Prim.Native.Nat.{ℕ, _+_, _≤_, _<_, max, min}
 use mathlib.Core.Path.{_≡_, sym, _∙_, ap, subst}
 use mathlib.Core.List.{List}
 use mathlib.Core.Bool.{Bool, true, false, not}
@@ -29,7 +29,7 @@ use Rattle.gtc.proofs.item.Laws.{item-end}
 use Rattle.gtc.proofs.lookup.Laws.{lookup-within}
 use Rattle.gtc.specs.Genotype.{decoding}
 use Rattle.gtc.specs.Snp.{callArrays, intensityArrays, snpArrays, elements, SnpBytes, snpBytes, snpAt, snpOf, snpReading}
-use Rattle.gtc.specs.Snps.{snpsAt, snpsOf, snpsReading}
+use Rattle.gtc.specs.Snps.{snpsOf, snpsReading}
 use Rattle.gtc.specs.Transformation.{transformationOf, transformationReading}
 use Rattle.gtc.proofs.snp.Laws.{looked}
 
@@ -169,22 +169,14 @@ snp-under i s v w =
     reach-under x _ _ s (reach-must-under x _ _ _ s) (λ _ _.
     reach-under x _ _ s (bytes-under a s v w e) (λ b _. record-under x b _ s)))
 
-records-under : (x : ℕ) (b : SnpBytes) (n j : ℕ) (s : List ℕ) → reach (snpsAt b n j) s ≤ x
-unfolding snpsAt
-records-under x b zero j s = reach-done-under x _ s
-records-under x b (suc n) j s =
-    reach-under x _ _ s (record-under x b j s) (λ _ _.
-    reach-under x _ _ s (records-under x b n (j + 1) s) (λ _ _. reach-done-under x _ s))
-
 pub snps-under : (i r : ℕ) (s : List ℕ) (v : Extent) → answer judging s ≡ ok v → reach (snpsReading i r) s ≤ v .extent
 unfolding snpsReading snpsOf
 snps-under i r s v w =
     let x = v .extent in
     reach-under x _ _ s (arrays-under s v w) (λ a e.
     reach-under x _ _ s (reach-must-under x _ _ _ s) (λ _ _.
-    reach-under x _ _ s (bytes-under a s v w e) (λ b _.
-    reach-under x _ _ s (records-under x b _ _ s) (λ _ _.
-    reach-under x _ _ s (reach-must-under x _ _ _ s) (λ _ _. reach-done-under x _ s)))))
+    reach-under x _ _ s (reach-must-under x _ _ _ s) (λ _ _.
+    reach-under x _ _ s (bytes-under a s v w e) (λ _ _. reach-done-under x _ s))))
 
 pub transformation-under : (k : ℕ) (s : List ℕ) (v : Extent) → answer judging s ≡ ok v → reach (transformationReading k) s ≤ v .extent
 unfolding transformationReading transformationOf

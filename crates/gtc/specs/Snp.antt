@@ -1,6 +1,7 @@
 -- GTC: the record of one SNP.
 -- Assumes nothing.
 use Prim.Native.Nat.{ℕ, _+_, _-_, _*_, _≤_}
+use mathlib.Core.Path.{_≡_}
 use mathlib.Core.List.{List, [], _∷_}
 use mathlib.Core.Bool.{Bool}
 use lib.ListN.{length, take, drop}
@@ -78,6 +79,22 @@ pub record Present (s : List ℕ) (a : SnpArrays) : Type 0 where
   pub scores : a .scores .start + a .scores .size ≤ length s
   pub x : a .x .start + a .x .size ≤ length s
   pub y : a .y .start + a .y .size ≤ length s
+
+-- the arrays' sizes are those of one element for each SNP, as lookup has shown
+pub record Sized (a : SnpArrays) : Type 0 where
+  pub genotypes : a .genotypes .size ≡ a .genotypes .count
+  pub baseCalls : a .«base_calls» .size ≡ 2 * a .genotypes .count
+  pub scores : a .scores .size ≡ 4 * a .genotypes .count
+  pub x : a .x .size ≡ 2 * a .genotypes .count
+  pub y : a .y .size ≡ 2 * a .genotypes .count
+
+-- the elements of the first n SNPs are there
+pub record Elements (b : SnpBytes) (n : ℕ) : Type 0 where
+  pub genotypes : n ≤ length (b .genotypes)
+  pub baseCalls : 2 * n ≤ length (b .baseCalls)
+  pub scores : 4 * n ≤ length (b .scores)
+  pub x : 2 * n ≤ length (b .x)
+  pub y : 2 * n ≤ length (b .y)
 
 -- a letter of a base call: A, C, G, T or -
 unfoldable pub isBaseCall : ℕ → Bool

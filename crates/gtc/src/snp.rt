@@ -10,10 +10,11 @@ use reading::number::le16;
 use reading::number::le32;
 ghost use mathlib.Core.Path.{_≡_};
 ghost use mathlib.Core.List.{List};
-ghost use Prim.Native.Nat.{ℕ, _+_, _≤_, _<_};
+ghost use Prim.Native.Nat.{ℕ, _+_, _≤_};
 ghost use lib.ListN.{length};
+ghost use Rattle.reading.specs.Number.{le};
 ghost use Rattle.reading.specs.Check.{answer};
-ghost use Rattle.gtc.specs.Snp.{callArrays, intensityArrays, snpArrays, isBaseCall, elementsIn, snpAt, snpOf, snpReading, callsFound, intensitiesFound, arraysFound, snpRead, Present};
+ghost use Rattle.gtc.specs.Snp.{callArrays, intensityArrays, snpArrays, isBaseCall, elementsIn, snpAt, snpOf, snpReading, callsFound, intensitiesFound, arraysFound, snpRead, Present, Sized, Elements};
 
 // A SNP's record: the genotype's code and meaning, the two letters of the base call, the score with its bits, and the intensities.
 pub struct Snp {
@@ -106,7 +107,7 @@ pub(crate) fn snp_arrays(s: &[u8]) -> ArraysFound
 }
 
 // A letter of a base call: A, C, G, T or -.
-pub(crate) fn is_base_call(v: u8) -> bool
+fn is_base_call(v: u8) -> bool
     ensures { λ r. ⌜ r ≡ isBaseCall v ⌝ }
 {
     match v {
@@ -129,22 +130,47 @@ pub(crate) fn elements(s: &[u8], q: ItemData) -> &[u8]
     &s[start..end]
 }
 
+// The numbers at a place that is there. A part of a fixed length is read with no test of its length, so a loop over these is fast.
+fn byte_at(l: &[u8], p: usize) -> u8
+    requires { ⌜ p + 1 ≤ length (now l) ⌝ }
+    ensures { λ r. ⌜ r ≡ le 1 (now (l .entry)) p ⌝ }
+{
+    let end = p + 1;
+    byte(&l[p..end], 0)
+}
+
+fn word_at(l: &[u8], p: usize) -> u16
+    requires { ⌜ p + 2 ≤ length (now l) ⌝ }
+    ensures { λ r. ⌜ r ≡ le 2 (now (l .entry)) p ⌝ }
+{
+    let end = p + 2;
+    le16(&l[p..end], 0)
+}
+
+fn long_at(l: &[u8], p: usize) -> u32
+    requires { ⌜ p + 4 ≤ length (now l) ⌝ }
+    ensures { λ r. ⌜ r ≡ le 4 (now (l .entry)) p ⌝ }
+{
+    let end = p + 4;
+    le32(&l[p..end], 0)
+}
+
 // The record of SNP j, counted from 0, in the elements of the five arrays.
-fn snp_at(g: &[u8], b: &[u8], f: &[u8], x: &[u8], y: &[u8], j: usize) -> SnpRead
-    requires { ⌜ j < 0x100000000 ⌝ }
+pub(crate) fn snp_at(g: &[u8], b: &[u8], f: &[u8], x: &[u8], y: &[u8], j: usize) -> SnpRead
+    requires { ⌜ Elements (record { genotypes = now g; baseCalls = now b; scores = now f; x = now x; y = now y }) (j + 1) ⌝ }
     ensures { λ r. ⌜ ((l : List ℕ) → snpRead r ≡ answer (snpAt (record { genotypes = now (g .entry); baseCalls = now (b .entry); scores = now (f .entry); x = now (x .entry); y = now (y .entry) }) j) l) ⌝ }
 {
-    let code = byte(g, j);
+    let code = byte_at(g, j);
     if 45 < code {
         return SnpRead::Refused(11);
     }
-    let call_1 = byte(b, 2 * j);
-    let call_2 = byte(b, 2 * j + 1);
+    let call_1 = byte_at(b, 2 * j);
+    let call_2 = byte_at(b, 2 * j + 1);
     let first = is_base_call(call_1);
     let second = is_base_call(call_2);
     if first {
         if second {
-            let score_bits = le32(f, 4 * j);
+            let score_bits = long_at(f, 4 * j);
             return SnpRead::At(Snp {
                 code,
                 genotype: meaning_of(code),
@@ -152,8 +178,8 @@ fn snp_at(g: &[u8], b: &[u8], f: &[u8], x: &[u8], y: &[u8], j: usize) -> SnpRead
                 call_2,
                 score: single(score_bits),
                 score_bits,
-                x: le16(x, 2 * j),
-                y: le16(y, 2 * j),
+                x: word_at(x, 2 * j),
+                y: word_at(y, 2 * j),
             });
         }
     }
@@ -161,7 +187,7 @@ fn snp_at(g: &[u8], b: &[u8], f: &[u8], x: &[u8], y: &[u8], j: usize) -> SnpRead
 }
 
 fn snp_of(s: &[u8], a: SnpArrays, index: u64) -> SnpRead
-    requires { ⌜ Present (now s) a ⌝ }
+    requires { ⌜ Present (now s) a × Sized a ⌝ }
     ensures { λ r. ⌜ snpRead r ≡ answer (snpOf a index) (now (s .entry)) ⌝ }
 {
     let n = a.genotypes.count;

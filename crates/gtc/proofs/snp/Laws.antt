@@ -1,11 +1,12 @@
 -- The SNPs' arrays and records, from the answers of their parts.
 -- Assumes nothing.
 use Prim.Native.Nat.{ℕ, zero, suc, _+_, _-_, _≤_}
-use mathlib.Core.Path.{_≡_, _∙_, ap}
+use mathlib.Core.Path.{_≡_, refl, _∙_, ap}
 use mathlib.Core.List.{List, [], _∷_}
 use mathlib.Core.Bool.{true}
 use native.Mathlib.Nat.{add-sub-cancel-left, zero-add, suc-add}
-use lib.ListN.{length, take, drop}
+use native.Mathlib.Omega.{arith}
+use lib.ListN.{length, take, drop, length-take, length-drop}
 use lib.Seq.{take-nil, drop-nil}
 use Rattle.reading.specs.Choice.{isNumberOf}
 use Rattle.reading.specs.Check.{ok, answer, holds, need}
@@ -13,9 +14,11 @@ use Rattle.reading.proofs.Steps.{answer-bind, answer-must, answer-done, answer-
 use Rattle.reading.proofs.Passed.{bind-ok, done-ok}
 use Rattle.gtc.specs.declared.item.ItemData.{ItemData}
 use Rattle.gtc.specs.declared.snp.SnpArrays.{SnpArrays}
+use Rattle.gtc.specs.Item.{listingOf}
 use Rattle.gtc.specs.Lookup.{lookingUp}
+use Rattle.gtc.proofs.Arrays.{of-snps, same-count}
 use Rattle.gtc.proofs.lookup.Laws.{lookup-within}
-use Rattle.gtc.specs.Snp.{callArrays, intensityArrays, snpArrays, elementsIn, SnpBytes, snpBytes, Present, snpAt, snpOf}
+use Rattle.gtc.specs.Snp.{callArrays, intensityArrays, snpArrays, elementsIn, SnpBytes, snpBytes, Present, Sized, Elements, snpAt, snpOf}
 
 -- a part by its start and end is the end of a beginning
 part-of : (a n : ℕ) (s : List ℕ) → take n (drop a s) ≡ drop a (take (a + n) s)
@@ -82,3 +85,45 @@ arrays-present s a w =
       x = lookup-within 1000 s (a .x) (l .x);
       y = lookup-within 1001 s (a .y) (l .y);
     }
+
+-- the arrays that lookup finds have one element for each SNP
+pub arrays-sized : (s : List ℕ) (a : SnpArrays) → answer snpArrays s ≡ ok a → Sized a
+unfolding listingOf
+arrays-sized s a w =
+    let l = looked s a w in
+    let g = of-snps 1002 1 s (a .genotypes) refl (l .genotypes) in
+    let b = of-snps 1003 2 s (a .«base_calls») refl (l .baseCalls) in
+    let f = of-snps 1004 4 s (a .scores) refl (l .scores) in
+    let x = of-snps 1000 2 s (a .x) refl (l .x) in
+    let y = of-snps 1001 2 s (a .y) refl (l .y) in
+    let m = same-count 2 1 s _ _ b g in
+    let n = same-count 4 1 s _ _ f g in
+    let p = same-count 2 1 s _ _ x g in
+    let q = same-count 2 1 s _ _ y g in
+    record { genotypes = g .size ∙ omega arith; baseCalls = b .size ∙ omega arith; scores = f .size ∙ omega arith; x = x .size ∙ omega arith; y = y .size ∙ omega arith }
+
+length-elements : (s : List ℕ) (q : ItemData) → q .start + q .size ≤ length s → length (elementsIn s q) ≡ q .size
+length-elements s q h = simp (length-drop, length-take) (omega arith)
+
+pub elements-there : (s : List ℕ) (a : SnpArrays) → Present s a → Sized a → Elements (bytesIn s a) (a .genotypes .count)
+elements-there s a p z =
+    let g = length-elements s (a .genotypes) (p .genotypes) in
+    let b = length-elements s (a .«base_calls») (p .baseCalls) in
+    let f = length-elements s (a .scores) (p .scores) in
+    let x = length-elements s (a .x) (p .x) in
+    let y = length-elements s (a .y) (p .y) in
+    let u = z .genotypes in
+    let v = z .baseCalls in
+    let w = z .scores in
+    let m = z .x in
+    let n = z .y in
+    record { genotypes = omega arith; baseCalls = omega arith; scores = omega arith; x = omega arith; y = omega arith }
+
+pub elements-within : (b : SnpBytes) (m n : ℕ) → m ≤ n → Elements b n → Elements b m
+elements-within b m n h e =
+    let g = e .genotypes in
+    let c = e .baseCalls in
+    let f = e .scores in
+    let x = e .x in
+    let y = e .y in
+    record { genotypes = omega arith; baseCalls = omega arith; scores = omega arith; x = omega arith; y = omega arith }

@@ -4,7 +4,7 @@ use Rattle.gtc.proofs.snp.read_snp.Tie as tie
 use mathlib.Core.Path.{_∙_, sym, ap}
 use Rattle.reading.proofs.Passed.{bind-refused, bind-answered}
 use Rattle.gtc.specs.Snp.{snpArrays, snpOf, snpReading, arraysFound}
-use Rattle.gtc.proofs.snp.Laws.{arrays-present}
+use Rattle.gtc.proofs.snp.Laws.{arrays-present, arrays-sized}
 
 snp-arrays-requires : tie.Need-snp-arrays-requires
 snp-arrays-requires c κs = search needs
@@ -18,7 +18,9 @@ enum-known-a c = search needs
 snp-of-requires : tie.Need-snp-of-requires
 snp-of-requires c κs =
     let o = c .before .before .before in
-    arrays-present (o .before .before .args .s .now) _ (sym (o .snp-arrays .ensures) ∙ ap arraysFound (c .before .a .given .1))
+    let s = o .before .before .args .s .now in
+    let w = sym (o .snp-arrays .ensures) ∙ ap arraysFound (c .before .a .given .1) in
+    (arrays-present s _ w, arrays-sized s _ w)
 
 returns : tie.Need-returns
 unfolding snpReading

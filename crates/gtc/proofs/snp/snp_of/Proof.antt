@@ -1,6 +1,7 @@
 use borrow.Author.Needs.{needs}
 use Rattle.gtc.proofs.snp.snp_of.Statement.{statement}
 use Rattle.gtc.proofs.snp.snp_of.Tie as tie
+use Prim.Native.Nat.{_+_, _-_}
 use mathlib.Core.Path.{_≡_, _∙_}
 use mathlib.Core.Bool.{true}
 use native.Mathlib.Omega.{arith}
@@ -9,7 +10,7 @@ use Rattle.reading.specs.Choice.{isNumberOf}
 use Rattle.reading.specs.Check.{answer}
 use Rattle.reading.proofs.Tests.{tests}
 use Rattle.gtc.specs.Snp.{snpOf}
-use Rattle.gtc.proofs.snp.Laws.{of-snp}
+use Rattle.gtc.proofs.snp.Laws.{of-snp, elements-there, elements-within}
 
 returns : tie.Need-returns
 unfolding snpOf answer
@@ -38,7 +39,11 @@ elements-requires-5 : tie.Need-elements-requires-5
 elements-requires-5 c κs = search needs
 
 snp-at-requires : tie.Need-snp-at-requires
-snp-at-requires c κs = let z = c .before .before .before .before .before .before .before .before in omega (arith, z .good .1 .0 .1 .1 .0)
+snp-at-requires c κs =
+    let y = c .before .before .before .before in
+    let z = y .before .before .before .before in
+    rw (y .elements .ensures, c .before .before .before .elements2 .ensures, c .before .before .elements3 .ensures, c .before .elements4 .ensures, c .elements5 .ensures)
+    (elements-within _ (z .args .index - 1 + 1) (z .args .a .genotypes .count) (omega arith) (elements-there (z .args .s .now) (z .args .a) (z .pre .0) (z .pre .1)))
 
 returns-3 : tie.Need-returns-3
 returns-3 c =
@@ -46,7 +51,7 @@ returns-3 c =
     let z = y .before .before .before .before in
     let g = z .args in
     let f : isNumberOf (g .index) (g .a .genotypes .count) ≡ true = rw (le-leb 1 (g .index) (omega arith), le-leb (g .index) (g .a .genotypes .count) (omega arith)) in
-    c .snp-at .ensures (g .s .now) ∙ rw (y .elements .ensures, c .before .before .before .before .elements2 .ensures, c .before .before .before .elements3 .ensures, c .before .before .elements4 .ensures, c .before .elements5 .ensures) (of-snp (g .s .now) (g .a) (z .pre) (g .index) f)
+    c .snp-at .ensures (g .s .now) ∙ rw (y .elements .ensures, c .before .before .before .before .elements2 .ensures, c .before .before .before .elements3 .ensures, c .before .before .elements4 .ensures, c .before .elements5 .ensures) (of-snp (g .s .now) (g .a) (z .pre .0) (g .index) f)
 
 pub snp-of-spec : {M : Type 1} → statement M
 snp-of-spec =

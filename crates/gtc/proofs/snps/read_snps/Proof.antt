@@ -6,8 +6,7 @@ use borrow.Author.Needs.{needs}
 use Rattle.reading.proofs.Passed.{bind-refused, bind-answered}
 use Rattle.gtc.specs.Snp.{snpArrays, arraysFound}
 use Rattle.gtc.specs.Snps.{snpsOf, snpsReading}
-use Rattle.gtc.proofs.snp.Laws.{arrays-present}
-use Rattle.gtc.proofs.snps.Laws.{arrays-sized}
+use Rattle.gtc.proofs.snp.Laws.{arrays-present, arrays-sized}
 
 snp-arrays-requires : tie.Need-snp-arrays-requires
 snp-arrays-requires c κs = search needs

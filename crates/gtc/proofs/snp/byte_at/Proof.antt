@@ -1,6 +1,6 @@
 use borrow.Author.Needs.{needs}
-use Rattle.gtc.proofs.snps.byte_at.Statement.{statement}
-use Rattle.gtc.proofs.snps.byte_at.Tie as tie
+use Rattle.gtc.proofs.snp.byte_at.Statement.{statement}
+use Rattle.gtc.proofs.snp.byte_at.Tie as tie
 use mathlib.Core.Path.{_∙_}
 use Rattle.reading.proofs.Width.{byte-le, le-part}
 
