@@ -15,7 +15,7 @@ use Rattle.sff.specs.Read.{readHeaderOf, present, framing}
 use Rattle.sff.specs.Walk.{skipIndex, nextRead, walk, walkPast, beforeRead}
 use Rattle.sff.specs.Judge as Judge
 use Rattle.sff.specs.Clips.{clipsCheck}
-use Rattle.sff.specs.Steps.{sumsWithin, stepsCheck}
+use Rattle.contents.specs.Steps.{sumsWithin, stepsCheck}
 use Rattle.sff.specs.Lookup.{readOf, readContents, readFrom, readIn, readReading, readAtReading}
 use Rattle.gtc.specs.Table as Table
 use Rattle.gtc.specs.Entry as Entry

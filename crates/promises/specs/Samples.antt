@@ -112,14 +112,6 @@ table =
     ∷ record { format = abif; file = monthThirteen; call = element 0x52554e44 1 1; answers = refused 11 0 }
     ∷ []
 
--- no sample of document 01: bytes behind the extent of W7 that look like a read, and what a cut makes of them
-abbrev pub behindTheExtent : List Sample
-behindTheExtent =
-    record { format = sff; file = sffHeader 0 ++ threeBases; call = Sff.judge; answers = ok 40 }
-    ∷ record { format = sff; file = sffHeader 0 ++ threeBases; call = Sff.readAt 40 Insert; answers = ok readAt40 }
-    ∷ record { format = sff; file = take 40 (sffHeader 0 ++ threeBases); call = Sff.readAt 40 Insert; answers = refused 1 0 }
-    ∷ []
-
 -- every row holds
 abbrev pub AllHold : List Sample → Type 0
 AllHold [] = Unit {0}
