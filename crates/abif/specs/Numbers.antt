@@ -1,12 +1,12 @@
 -- ABIF: the elements of a whole-number item, from number `first` on.
 -- Assumes nothing.
-use Prim.Native.Nat.{ℕ, zero, suc, _+_, _-_}
+use Prim.Native.Nat.{ℕ, zero, suc, _+_}
 use mathlib.Core.List.{List, [], _∷_}
 use mathlib.Core.Bool.{Bool}
-use lib.Dec.{leb}
 use lib.IntN.{ℤ}
 use Rattle.reading.specs.Choice.{among, isNumberOf}
 use Rattle.reading.specs.Check.{Check, Answer, ok, refused, done, provided, _>>=_, _>>_}
+use Rattle.reading.specs.Bulk.{leftFrom, fitting, oneFits}
 use Rattle.abif.specs.declared.numbers.Copied.{Copied}
 use Rattle.abif.specs.declared.numbers.Copied.the-variants.{Count, Refused}
 use Rattle.abif.specs.Entry.{typeOf}
@@ -23,18 +23,14 @@ unfoldable pub wholesAt : ℕ → ℕ → List ℕ → ℕ → ℕ → List ℤ
 wholesAt k w l p zero = []
 wholesAt k w l p (suc n) = wholeAt k l p ∷ wholesAt k w l (p + w) n
 
--- the number of elements from number `first` on
-abbrev pub left : ItemData → ℕ → ℕ
-left q first = q .count - (first - 1)
-
--- other types 10, no such element 12, too little room 13
+-- other types 10, no such element 12, not one fits 13; then as many as are left and as fit
 unfoldable pub numbersOf : ItemData → ℕ → ℕ → Check (List ℤ)
 numbersOf q first room = do
   provided (isWhole (q .«element_type»)) 10
   provided (isNumberOf first (q .count)) 12
-  provided (leb (left q first) room) 13
+  oneFits 1 room
   l ← itemBytes q
-  done (wholesAt (q .«element_type») (sizeOf (typeOf (q .«element_type»))) l (elementPlace q first) (left q first))
+  done (wholesAt (q .«element_type») (sizeOf (typeOf (q .«element_type»))) l (elementPlace q first) (fitting 1 (leftFrom (q .count) first) room))
 
 unfoldable pub numbersReading : ℕ → ℕ → ℕ → ℕ → Check (List ℤ)
 numbersReading a b first room = do

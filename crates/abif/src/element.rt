@@ -10,7 +10,6 @@ use reading::number::be16;
 use reading::number::be32;
 use reading::number::be64;
 use reading::number::byte;
-use reading::number::signed_pair;
 use reading::number::signed8;
 use reading::number::signed16;
 use reading::number::signed32;
@@ -80,8 +79,7 @@ pub(crate) fn whole_at(l: &[u8], code: u16, p: usize) -> i64
         }
         4 => {
             let end = p + 2;
-            let x = &l[p..end];
-            signed_pair(byte(x, 0), byte(x, 1))
+            signed16(be16(&l[p..end], 0)) as i64
         }
         5 => {
             let end = p + 4;

@@ -5,6 +5,7 @@ use crate::element::width_of;
 use crate::lookup::Found;
 use crate::lookup::ItemData;
 use crate::lookup::lookup;
+use reading::bulk::smaller;
 ghost use mathlib.Core.Path.{_≡_};
 ghost use mathlib.Core.List.{_++_};
 ghost use Prim.Native.Nat.{_+_, _*_, _≤_};
@@ -79,10 +80,10 @@ fn numbers_of(s: &[u8], q: ItemData, first: u64, out: &mut [i64]) -> Copied
         if (q.count as u64) < first {
             return Copied::Refused(12);
         }
-        let n = (q.count as u64 - (first - 1)) as usize;
-        if out.len() < n {
+        if out.len() < 1 {
             return Copied::Refused(13);
         }
+        let n = smaller((q.count as u64 - (first - 1)) as usize, out.len());
         let w = width_of(q.element_type);
         let p = element_place(q.start, w, first);
         let end = q.start + q.size;
@@ -93,7 +94,7 @@ fn numbers_of(s: &[u8], q: ItemData, first: u64, out: &mut [i64]) -> Copied
     }
 }
 
-// The elements from number `first` on, as many as are left, at the output's front.
+// The elements from number `first` on, as many as are left and as fit, at the output's front.
 pub fn whole_numbers(s: &[u8], name: u32, number: u32, first: u64, out: &mut [i64]) -> Copied
     ensures { λ r. ⌜ copied r ≡ mapAnswer length (answer (numbersReading name number first (length (now (out .entry)))) (now (s .entry))) ⌝ }
     ensures { λ _. ⌜ now (out .exit) ≡ filled (answer (numbersReading name number first (length (now (out .entry)))) (now (s .entry))) (now (out .entry)) ⌝ }

@@ -4,20 +4,22 @@ use crate::answers::Listed;
 use crate::answers::SffHeader;
 use crate::answers::SffRead;
 use crate::answers::Verdict;
+use crate::listed::as_listed;
 use sff::flow;
 use sff::header;
 use sff::judge;
 use sff::lookup;
-use sff::places;
 use sff::position::BasePosition;
+use sff::reads;
 ghost use mathlib.Core.Path.{_≡_};
 ghost use lib.ListN.{length};
 ghost use Rattle.reading.specs.Check.{answer, mapAnswer};
 ghost use Rattle.reading.specs.Lent.{filled};
+ghost use Rattle.reading.specs.Bulk.{records};
 ghost use Rattle.sff.specs.Header.{header as headerReading, opened};
 ghost use Rattle.sff.specs.Judge.{judging, verdict};
-ghost use Rattle.sff.specs.Lookup.{readReading, readAtReading, found};
-ghost use Rattle.sff.specs.Places.{placesReading, listed};
+ghost use Rattle.sff.specs.Lookup.{readReading, found};
+ghost use Rattle.sff.specs.Reads.{readsReading, readNumbers};
 ghost use Rattle.sff.specs.Flow.{flowReading, flow as flowAnswer};
 ghost use Rattle.capi.specs.Answers.{asVerdict, asListed};
 ghost use Rattle.capi.specs.Sff.{asHeader, toldRead, refusedRead, asRead, asFlow};
@@ -149,31 +151,13 @@ pub extern "C" fn jt_sff_read(s: &[u8], k: u64) -> SffRead
     as_read(lookup::read_number(s, k))
 }
 
-fn as_listed(n: places::Listed) -> Listed
-    ensures { λ r. ⌜ r ≡ asListed (listed n) ⌝ }
-{
-    match n {
-        places::Listed::Count(count) => Listed { refusal: 0, count },
-        places::Listed::Refused(number) => Listed {
-            refusal: number as u64,
-            count: 0,
-        },
-    }
-}
-
+// 17 numbers for each read: the fields of its record.
 #[no_mangle]
-pub extern "C" fn jt_sff_places(s: &[u8], first: u64, out: &mut [u64]) -> Listed
-    ensures { λ r. ⌜ r ≡ asListed (mapAnswer length (answer (placesReading first (length (now (out .entry)))) (now (s .entry)))) ⌝ }
-    ensures { λ _. ⌜ now (out .exit) ≡ filled (answer (placesReading first (length (now (out .entry)))) (now (s .entry))) (now (out .entry)) ⌝ }
+pub extern "C" fn jt_sff_reads(s: &[u8], first: u64, out: &mut [u64]) -> Listed
+    ensures { λ r. ⌜ r ≡ asListed (mapAnswer length (answer (readsReading first (length (now (out .entry)))) (now (s .entry)))) ⌝ }
+    ensures { λ _. ⌜ now (out .exit) ≡ filled (mapAnswer (records 17 readNumbers) (answer (readsReading first (length (now (out .entry)))) (now (s .entry)))) (now (out .entry)) ⌝ }
 {
-    as_listed(places::read_places(s, first, out))
-}
-
-#[no_mangle]
-pub extern "C" fn jt_sff_read_at(s: &[u8], start: u64) -> SffRead
-    ensures { λ r. ⌜ r ≡ asRead (answer (readAtReading start) (now (s .entry))) ⌝ }
-{
-    as_read(lookup::read_at(s, start))
+    as_listed(reads::read_many(s, first, out))
 }
 
 fn as_flow(f: flow::Flow) -> Flow

@@ -4,13 +4,13 @@ pub mod Passed
 pub mod Refusing
 pub mod Explained
 pub mod Reach
+pub mod Refused
 pub mod Loop
 pub mod Fill
 pub mod Fold
 pub mod Parts
 pub mod Product
 pub mod Signs
-pub mod Pair
 pub mod Bits
 pub mod Signed
 pub mod Floats

@@ -1,10 +1,10 @@
 -- Numbers of w bytes, big-endian and little-endian alike: the laws are of `number`, over the width.
 -- Assumes nothing.
-use Prim.Native.Nat.{ℕ, zero, suc, _+_, _-_, _*_, _^_, _<_, _≤_}
-use mathlib.Core.Path.{_≡_, refl, _∙_, ap}
+use Prim.Native.Nat.{ℕ, zero, suc, _+_, _-_, _*_, _/_, _%_, _^_, _<_, _≤_}
+use mathlib.Core.Path.{_≡_, refl, sym, _∙_, ap}
 use mathlib.Core.List.{List}
 use native.Mathlib.Omega.{arith}
-use native.Mathlib.Nat.{add-zero, add-suc, add-assoc, add-mul, mul-assoc, mul-comm}
+use native.Mathlib.Nat.{add-zero, zero-add, add-suc, add-assoc, add-mul, add-mul-div-right, div-eq-of-lt, mul-assoc, mul-comm, mul-le-mul-right, pow-suc}
 use lib.ListN.{length, take, drop, getD, List·getD-eq-default}
 use lib.Pow.{pow-add}
 use lib.Seq.{getD-take, getD-drop}
@@ -57,6 +57,10 @@ pub byte-le : (s : List ℕ) (p : ℕ) → be 1 s p ≡ le 1 s p
 unfolding be le
 byte-le s p = refl
 
+pub le-byte : (s : List ℕ) (p : ℕ) → le 1 s p ≡ getD s p 0
+unfolding le
+le-byte s p = rw (add-zero p) (omega arith)
+
 -- bytes past the end read as 0
 number-zero : (w : ℕ) (d : ℕ → ℕ) → ((i : ℕ) → d i ≡ 0) → number w d ≡ 0
 number-zero zero d h = refl
@@ -78,6 +82,30 @@ number-split v (suc w) d =
     let e : d (v + w) * 256 ^ (v + w) ≡ d (v + w) * 256 ^ w * 256 ^ v = rw (pow-add 256 v w, mul-comm (256 ^ v) (256 ^ w), mul-assoc) in
     rw (add-suc v w, number-split v w d, add-mul) (omega arith)
 
+-- a number of w bytes is below 256 ^ w
+pub number-below : (w : ℕ) (d : ℕ → ℕ) → ((i : ℕ) → d i < 256) → number w d < 256 ^ w
+number-below zero d h = omega arith
+number-below (suc w) d h =
+    let ih : number w d < 256 ^ w = number-below w d h in
+    let b : d w ≤ 255 = omega (arith, h w) in
+    let m : d w * 256 ^ w ≤ 255 * 256 ^ w = mul-le-mul-right (256 ^ w) b in
+    omega (arith, pow-suc 256 w)
+
+-- byte i of a number, counted from the lowest
+pub number-digit : (w : ℕ) (d : ℕ → ℕ) → ((i : ℕ) → d i < 256) → (i : ℕ) → i < w → number w d / 256 ^ i % 256 ≡ d i
+number-digit w d h i l =
+    let r = w - suc i in
+    let k : w ≡ i + (1 + r) = omega arith in
+    let b : number i d < 256 ^ i = number-below i d h in
+    let p : 0 < 256 ^ i = omega arith in
+    let q : number w d / 256 ^ i ≡ number (1 + r) (λ j. d (i + j)) =
+    ap (λ (n : ℕ). number n d / 256 ^ i) k
+    ∙ ap (λ (n : ℕ). n / 256 ^ i) (number-split i (1 + r) d)
+    ∙ add-mul-div-right (number i d) (number (1 + r) (λ j. d (i + j))) p
+    ∙ rw (div-eq-of-lt b) (zero-add _)
+    in
+    rw (q, number-split 1 r (λ j. d (i + j)), add-zero) (omega (arith, h i))
+
 -- big-endian and little-endian alike
 module _ (v w : ℕ) (s : List ℕ) (p : ℕ) where
   pub be-split : be (v + w) s p ≡ be v s (p + w) + be w s p * 256 ^ v
@@ -90,3 +118,8 @@ module _ (v w : ℕ) (s : List ℕ) (p : ℕ) where
   pub le-split : le (v + w) s p ≡ le v s p + le w s (p + v) * 256 ^ v
   unfolding le
   le-split = number-split v w _ ∙ simp add-assoc
+
+-- a big-endian number is the little-endian one with its bytes in the other order
+pub be-swapped : (w : ℕ) (s : List ℕ) (p : ℕ) → ((i : ℕ) → getD s i 0 < 256) → be w s p ≡ number w (λ i. le w s p / 256 ^ (w - suc i) % 256)
+unfolding be le
+be-swapped w s p h = number-same w _ _ (λ i l. sym (number-digit w (λ j. getD s (p + j) 0) (λ j. h (p + j)) (w - suc i) (omega arith)))

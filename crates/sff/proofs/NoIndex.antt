@@ -20,7 +20,7 @@ use Rattle.sff.specs.Read.{readHeaderOf, readEnd, dataStart, stepsStart,
 use Rattle.sff.specs.Walk.{front, skipIndex, nextRead, Passage, walk, beforeRead}
 use Rattle.sff.specs.Judge.{ending, judgingReads, judging}
 use Rattle.sff.specs.Clips.{clipsCheck}
-use Rattle.sff.specs.Steps.{stepsCheck}
+use Rattle.contents.specs.Steps.{stepsCheck}
 use Rattle.sff.specs.Lookup.{readOf, readContents, readFrom, readIn, readReading}
 use Rattle.sff.proofs.walk.Laws.{before-none, before-past, before-is}
 use Rattle.sff.proofs.walk.Split.{walk-join}

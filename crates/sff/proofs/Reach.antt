@@ -21,7 +21,7 @@ use Rattle.sff.specs.declared.lookup.ReadPart.the-variants.{Steps}
 use Rattle.sff.specs.Header.{headerOf, markCheck, lengthCheck, indexCheck, header}
 use Rattle.sff.specs.Read.{readEnd, framing}
 use Rattle.sff.specs.Clips.{clipsCheck}
-use Rattle.sff.specs.Steps.{stepsCheck}
+use Rattle.contents.specs.Steps.{stepsCheck}
 use Rattle.sff.specs.Walk.{front, nextRead, Passage, walk, walkPast, beforeRead}
 use Rattle.sff.specs.Judge.{ending, judgingReads, judging}
 use Rattle.sff.specs.Lookup.{readContents, readFrom, readIn, readReading}

@@ -14,7 +14,7 @@ use Rattle.sff.specs.Read.{present, framing}
 use Rattle.sff.specs.Walk.{front, skipIndex, nextRead, walk, walkPast, beforeRead}
 use Rattle.sff.specs.Judge.{ending, judgingReads, judging}
 use Rattle.sff.specs.Clips.{clipsCheck}
-use Rattle.sff.specs.Steps.{stepsCheck}
+use Rattle.contents.specs.Steps.{stepsCheck}
 use Rattle.sff.specs.Lookup.{readContents, readFrom, readIn, readReading}
 use Rattle.sff.specs.Reads.{readsFrom, readsIn, readsReading}
 use Rattle.sff.specs.Flow.{flowOf, flowReading}

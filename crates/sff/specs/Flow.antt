@@ -8,7 +8,7 @@ use Rattle.sff.specs.declared.position.FlowPosition.{FlowPosition}
 use Rattle.sff.specs.declared.lookup.Read.{Read}
 use Rattle.sff.specs.declared.flow.Flow.{Flow}
 use Rattle.sff.specs.declared.flow.Flow.the-variants.{At, Refused}
-use Rattle.sff.specs.Steps.{stepSum}
+use Rattle.contents.specs.Steps.{stepSum}
 use Rattle.sff.specs.Lookup.{readReading}
 
 -- base i's flow is the sum of the first i steps; no such base 12

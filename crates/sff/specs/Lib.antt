@@ -4,7 +4,6 @@ pub mod Read
 pub mod Walk
 pub mod Judge
 pub mod Clips
-pub mod Steps
 pub mod Lookup
 pub mod Reads
 pub mod Flow

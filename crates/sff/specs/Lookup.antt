@@ -15,7 +15,7 @@ use Rattle.sff.specs.Header.{header}
 use Rattle.sff.specs.Read.{present, flowsStart, stepsStart, lettersStart, qualitiesStart}
 use Rattle.sff.specs.Walk.{skipIndex, beforeRead}
 use Rattle.sff.specs.Clips.{clipsCheck, firstBase, lastBase, insert}
-use Rattle.sff.specs.Steps.{stepsCheck}
+use Rattle.contents.specs.Steps.{stepsCheck}
 
 -- all that is told of a read with these header fields, in a file of f flows
 unfoldable pub readOf : ℕ → ReadHeader → Read

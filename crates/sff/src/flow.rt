@@ -4,7 +4,7 @@ use crate::lookup::Read;
 use crate::lookup::read_number;
 use crate::position::BasePosition;
 use crate::position::FlowPosition;
-use crate::steps::sum_of;
+use contents::steps::sum_of;
 ghost use mathlib.Core.Path.{_≡_};
 ghost use Prim.Native.Nat.{_+_, _≤_};
 ghost use lib.ListN.{length};

@@ -8,5 +8,4 @@ pub mod padding;
 pub mod position;
 pub mod read;
 pub mod reads;
-pub mod steps;
 pub(crate) mod walk;

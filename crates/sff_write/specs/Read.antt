@@ -9,7 +9,7 @@ use Rattle.reading.specs.Check.{Check, provided, _>>=_, _>>_}
 use Rattle.sff.specs.declared.read.ReadHeader.{ReadHeader}
 use Rattle.sff.specs.Padding.{padding, padded}
 use Rattle.sff.specs.Clips.{clipsCheck}
-use Rattle.sff.specs.Steps.{stepsCheck}
+use Rattle.contents.specs.Steps.{stepsCheck}
 use Rattle.writing.specs.Put.{digits, words}
 use Rattle.sff_write.specs.declared.read.Clips.{Clips}
 

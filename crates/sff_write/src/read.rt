@@ -1,8 +1,8 @@
 // A read: what it is checked for, and its bytes.
+use contents::steps::steps_hold;
 use sff::clips::clips_hold;
 use sff::padding::padding_behind;
 use sff::read::ReadHeader;
-use sff::steps::steps_hold;
 use writing::bytes::copy;
 use writing::bytes::put_zeros;
 use writing::number::put_words;

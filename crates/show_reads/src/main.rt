@@ -1,10 +1,8 @@
-// Runs the calls that no C function reaches, on the SFF file on standard input: the parts that a read's number or its place hands back, found
-// and refused.
+// Runs the calls that no C function reaches, on the SFF file on standard input: the parts of a read that are handed back, found and refused.
 use libc::STDIN_FILENO;
 use libc::STDOUT_FILENO;
 use sff::lookup::ReadPart;
 use sff::lookup::read_part;
-use sff::lookup::read_part_at;
 
 // A part as its length and its bytes.
 fn put_part(part: &[u8]) {
@@ -24,16 +22,6 @@ fn put_read(s: &[u8], k: u64) {
     put_part(read_part(s, k, ReadPart::Insert));
 }
 
-// Every part of the read that starts at this place.
-fn put_read_at(s: &[u8], start: u64) {
-    put_part(read_part_at(s, start, ReadPart::Name));
-    put_part(read_part_at(s, start, ReadPart::Flows));
-    put_part(read_part_at(s, start, ReadPart::Steps));
-    put_part(read_part_at(s, start, ReadPart::Letters));
-    put_part(read_part_at(s, start, ReadPart::Qualities));
-    put_part(read_part_at(s, start, ReadPart::Insert));
-}
-
 // The file has an insert in read 1, an empty one in read 2, a clip above the bases in read 3, and the index behind read 1.
 fn main() {
     let mut buffer = io::buffer();
@@ -44,9 +32,4 @@ fn main() {
     put_read(s, 2);
     put_read(s, 3);
     put_read(s, 4);
-    put_read_at(s, 40);
-    put_read_at(s, 96);
-    put_read_at(s, 144);
-    put_read_at(s, 184);
-    put_read_at(s, 0xffff_ffff_ffff_ffff);
 }

@@ -1,27 +1,18 @@
 -- The number law over the width: the number that w written bytes hold is the number written.
 -- Assumes nothing.
-use Prim.Native.Nat.{ℕ, zero, suc, _+_, _-_, _*_, _/_, _%_, _^_, _≤_, _<_}
+use Prim.Native.Nat.{ℕ, zero, suc, _+_, _-_, _/_, _%_, _^_, _≤_, _<_}
 use mathlib.Core.Path.{_≡_, refl, sym, _∙_, ap}
 use mathlib.Core.List.{List, [], _∷_, _++_}
 use native.Mathlib.Omega.{arith}
-use native.Mathlib.Nat.{mod-eq-of-lt, mod-lt, zero-add, add-mul-div-right, div-eq-of-lt, mul-le-mul-right, pow-suc, pow-succ'}
+use native.Mathlib.Nat.{mod-eq-of-lt, zero-add, pow-suc, pow-succ'}
 use lib.Arith.{mod-mul}
 use lib.Dec.{lit<}
 use lib.ListN.{length, getD, List·getD-append, replicate, length-append, length-replicate}
 use lib.Seq.{getD-append-add, ext-getD}
 use Rattle.reading.specs.Number.{number, be}
-use Rattle.reading.proofs.Width.{number-same}
+use Rattle.reading.proofs.Width.{number-same, number-below, number-digit}
 use Rattle.writing.specs.Put.{digits}
 use Rattle.writing.proofs.Over.{length-digits}
-
--- a number of w bytes is below 256 ^ w
-pub number-below : (w : ℕ) (d : ℕ → ℕ) → ((i : ℕ) → d i < 256) → number w d < 256 ^ w
-number-below zero d h = omega arith
-number-below (suc w) d h =
-    let ih : number w d < 256 ^ w = number-below w d h in
-    let b : d w ≤ 255 = omega (arith, h w) in
-    let m : d w * 256 ^ w ≤ 255 * 256 ^ w = mul-le-mul-right (256 ^ w) b in
-    omega (arith, pow-suc 256 w)
 
 power-pos : (w : ℕ) → 0 < 256 ^ w
 power-pos zero = omega arith
@@ -75,29 +66,6 @@ pub be-field : (w n k : ℕ) (u v r s : List ℕ) → s ≡ v ++ (digits w n ++ 
 be-field w n k u v r s e f h =
     let z : length v + 0 ≡ k = omega arith in
     be-shift w u s k ∙ rw (e, ← z) (be-shift w v (digits w n ++ r) 0 ∙ be-written w n r h)
-
--- the bytes of a number are unique
-top-same : (m a b x y : ℕ) → a < m → b < m → a + x * m ≡ b + y * m → x ≡ y
-top-same m a b x y ha hb e =
-    let p : 0 < m = omega arith in
-    sym (top m a x p ha) ∙ ap (λ (k : ℕ). k / m) e ∙ top m b y p hb
-  where
-    top : (m a x : ℕ) → 0 < m → a < m → (a + x * m) / m ≡ x
-    top m a x p h = add-mul-div-right a x p ∙ rw (div-eq-of-lt h) (omega arith)
-
-pub number-inj : (w : ℕ) (d e : ℕ → ℕ) → ((i : ℕ) → d i < 256) → ((i : ℕ) → e i < 256) → number w d ≡ number w e → (i : ℕ) → i < w → d i ≡ e i
-number-inj zero d e hd he q i h = absurd (omega arith)
-number-inj (suc w) d e hd he q i h = go (w - i) refl (top-same (256 ^ w) (number w d) (number w e) (d w) (e w) (number-below w d hd) (number-below w e he) q) (λ r. number-inj w d e hd he r i)
-  where
-    go : (k : ℕ) → w - i ≡ k → d w ≡ e w → (number w d ≡ number w e → i < w → d i ≡ e i) → d i ≡ e i
-    go zero k t f =
-        let z : w ≡ i = omega arith in
-        rw (← z) t
-    go (suc k) z t f = f (omega (arith, q, ap (λ (y : ℕ). y * 256 ^ w) t)) (omega arith)
-
-pub number-digit : (w : ℕ) (d : ℕ → ℕ) → ((i : ℕ) → d i < 256) → (i : ℕ) → i < w → number w d / 256 ^ i % 256 ≡ d i
-number-digit w d h =
-    number-inj w (λ i. number w d / 256 ^ i % 256) d (λ i. mod-lt _ (lit< tt)) h (number-of w (number w d) ∙ mod-eq-of-lt (number-below w d h))
 
 getD-zeros : (k j : ℕ) → getD (replicate k 0) j 0 ≡ (let z : ℕ = 0 in z)
 getD-zeros zero j = refl

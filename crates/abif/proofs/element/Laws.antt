@@ -5,7 +5,7 @@ use mathlib.Core.Path.{_≡_, _∙_, ap}
 use mathlib.Core.List.{List}
 use mathlib.Core.Bool.{true, false, not}
 use lib.IntN.{pos}
-use lib.ListN.{length, take, drop}
+use lib.ListN.{length, take}
 use lib.Dec.{eqb}
 use lib.Ieee.{binary32, binary64, ofBits}
 use native.Mathlib.Nat.{mul-suc, mul-le-mul-left}
@@ -15,19 +15,11 @@ use Rattle.reading.specs.Choice.{isNumberOf}
 use Rattle.reading.specs.Number.{be, signed}
 use Rattle.reading.specs.Check.{ok, refused, answer, holds}
 use Rattle.reading.proofs.Product.{below}
-use Rattle.reading.proofs.Width.{be-part, be-split}
 use Rattle.reading.proofs.Steps.{answer-bind, answer-must, answer-need-present}
 use Rattle.abif.specs.declared.entry.ElementType.the-variants.{Listed}
 use Rattle.abif.specs.declared.lookup.ItemData.{ItemData}
 use Rattle.abif.specs.Entry.{typeOf}
 use Rattle.abif.specs.Element.{single, double, thumb, bool, whole, wholeAt, dateAt, timeAt, valueAt, isListed, elementOf}
-
--- a number of two bytes, read one by one from the part that it fills
-pub read-pair : (p : ℕ) (l : List ℕ) (a b : ℕ) → a ≡ be 1 (take (p + 2 - p) (drop p l)) 0 → b ≡ be 1 (take (p + 2 - p) (drop p l)) 1 → 256 * a + b ≡ be 2 l p
-read-pair p l a b e f =
-    let s = be-split 1 1 (take (p + 2 - p) (drop p l)) 0 in
-    let e : 256 * a + b ≡ be 2 (take (p + 2 - p) (drop p l)) 0 = omega arith in
-    e ∙ be-part 2 p l
 
 -- the place of an element is a machine's number
 pub place-below : {s w i : ℕ} → s < 0x100000000 → w < 2 ^ 16 → i < 2 ^ 32 → s + w * i < 0x2000000000000

@@ -17,6 +17,7 @@ use Rattle.reading.proofs.Steps.{run-bind, run-must, run-done, run-at, 
 use Rattle.reading.proofs.Passed.{bind-ok, must-ok, done-ok, at-ok}
 use Rattle.reading.proofs.Explained.{explained-short}
 use Rattle.reading.proofs.Reach.{reach-none}
+use Rattle.reading.proofs.Refused.{Refuses, refuses-done, refuses-must, refuses-bind}
 use Rattle.reading.proofs.Tests.{span}
 
 module _ (f : ℕ → Bool) where
@@ -92,6 +93,11 @@ module _ (f : ℕ → Bool) where
   pub one-needs-none : (n : ℕ) (s : List ℕ) → reach (oneWith f n) s ≡ 0
   unfolding oneWith
   one-needs-none n s = search (reach-none, reach-must, reach-done) depth 12
+
+  -- and is refused with 7 or 8 alone
+  pub one-refuses : (P : ℕ → ℕ → Type 0) (n : ℕ) (s : List ℕ) → P 7 0 → P 8 0 → Refuses P (oneWith f n) s
+  unfolding oneWith
+  one-refuses P n s a b = search (refuses-bind, refuses-must, refuses-done)
 
 -- what is the same beyond b is the same beyond more
 pub beyond : (b x e y : ℕ) → b ≤ x → max b e ≡ max b y → max x e ≡ max x y

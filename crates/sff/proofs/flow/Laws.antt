@@ -10,9 +10,9 @@ use Rattle.reading.specs.Check.{ok, answer, holds}
 use Rattle.reading.proofs.Steps.{answer-bind, answer-must, answer-done, answer-need-present}
 use Rattle.sff.specs.declared.position.BasePosition.{BasePosition}
 use Rattle.sff.specs.declared.lookup.Read.{Read}
-use Rattle.sff.specs.Steps.{stepSum}
+use Rattle.contents.specs.Steps.{stepSum}
 use Rattle.sff.specs.Flow.{flowOf}
-use Rattle.sff.proofs.steps.Laws.{sum-window, sum-taken}
+use Rattle.contents.proofs.steps.Laws.{sum-window, sum-taken}
 
 module _ (r : Read) (i : BasePosition) (s : List ℕ) (w : r .«steps_start» + r .bases ≤ length s) where
   pub flow-found : (v k : ℕ) → k ≡ i .0 → v ≡ stepSum (take k (drop (r .«steps_start») s)) 0 (length (take k (drop (r .«steps_start») s))) → 1 ≤ i .0 → i .0 ≤ r .bases → ok (record { 0 = v }) ≡ answer (flowOf r i) s

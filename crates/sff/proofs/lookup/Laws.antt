@@ -28,7 +28,7 @@ use Rattle.sff.specs.Padding.{padded}
 use Rattle.sff.specs.Read.{readEnd, present, framing, stepsStart, lettersStart}
 use Rattle.sff.specs.Walk.{skipIndex, beforeRead}
 use Rattle.sff.specs.Clips.{clipsCheck, rightClip, firstBase, lastBase, insertFrom, insert}
-use Rattle.sff.specs.Steps.{stepsCheck}
+use Rattle.contents.specs.Steps.{stepsCheck}
 use Rattle.sff.specs.Lookup.{readOf, readContents, readFrom, readIn, readReading, spanOf}
 use Rattle.sff.proofs.padding.Laws.{padded-bounds}
 use Rattle.sff.proofs.read.Laws.{fields, present-there}

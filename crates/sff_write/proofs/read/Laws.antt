@@ -15,7 +15,7 @@ use Rattle.reading.proofs.Passed.{bind-ok, must-ok}
 use Rattle.sff.specs.declared.read.ReadHeader.{ReadHeader}
 use Rattle.sff.specs.Padding.{padding, padded}
 use Rattle.sff.specs.Clips.{clipsCheck}
-use Rattle.sff.specs.Steps.{stepsCheck}
+use Rattle.contents.specs.Steps.{stepsCheck}
 use Rattle.writing.specs.Put.{digits, words, put}
 use Rattle.writing.proofs.Over.{follow}
 use Rattle.writing.proofs.Pieces.{three, four}

@@ -14,7 +14,7 @@ use Rattle.reading.proofs.Passed.{bind-ok, must-ok, done-ok}
 use Rattle.sff.specs.declared.read.ReadHeader.{ReadHeader}
 use Rattle.sff.specs.Padding.{padding, padded}
 use Rattle.sff.specs.Clips.{clipsCheck}
-use Rattle.sff.specs.Steps.{stepsCheck}
+use Rattle.contents.specs.Steps.{stepsCheck}
 use Rattle.writing.specs.Put.{put}
 use Rattle.sff_write.specs.declared.write.Writer.{Writer}
 use Rattle.sff_write.specs.Header.{headerSize, headerBytes}

@@ -1,15 +1,14 @@
-use mathlib.Core.Path.{_≡_, _∙_, ap}
+use mathlib.Core.Path.{_∙_, ap}
 use native.Mathlib.Omega.{arith}
 use lib.IntN.{pos}
-use mir.Syntax.{w8, w32, w64}
-use mir.Val.{toZ, ofZ}
+use mir.Syntax.{w8, w16, w32, w64}
 use mir.Facts.{toZ-pos}
 use borrow.Author.Needs.{needs}
 use Rattle.reading.specs.Number.{signed}
 use Rattle.reading.proofs.Signs.{widened-fits, widened}
 use Rattle.reading.proofs.Width.{be-part}
 use Rattle.abif.specs.Entry.{typeOf}
-use Rattle.abif.proofs.element.Laws.{read-pair, whole-one, whole-char, whole-word, whole-short, whole-long, whole-byte}
+use Rattle.abif.proofs.element.Laws.{whole-one, whole-char, whole-word, whole-short, whole-long, whole-byte}
 use Rattle.abif.proofs.element.whole_at.Statement.{statement}
 use Rattle.abif.proofs.element.whole_at.Tie as tie
 
@@ -76,24 +75,24 @@ cast-result-3 c = search needs
 add-end-4 : tie.Need-add-end-4
 add-end-4 c = search needs
 
-sub-x : tie.Need-sub-x
-sub-x c = search needs
+sub-be16-2 : tie.Need-sub-be16-2
+sub-be16-2 c = search needs
 
-part-x-start : tie.Need-part-x-start
-part-x-start c = search needs
+part-be16-start-2 : tie.Need-part-be16-start-2
+part-be16-start-2 c = search needs
 
-part-x-end : tie.Need-part-x-end
+part-be16-end-2 : tie.Need-part-be16-end-2
 unfolding typeOf
-part-x-end c = rw (c .match .keys4) at (c .before .before .pre)
+part-be16-end-2 c = rw (c .match .keys4) at (c .before .before .pre)
 
-byte-requires-3 : tie.Need-byte-requires-3
-byte-requires-3 c κs = search needs
+be16-requires-2 : tie.Need-be16-requires-2
+be16-requires-2 c κs = search needs
 
-byte-requires-4 : tie.Need-byte-requires-4
-byte-requires-4 c κs = search needs
+signed16-requires : tie.Need-signed16-requires
+signed16-requires c κs = search needs
 
-signed-pair-requires : tie.Need-signed-pair-requires
-signed-pair-requires c κs = search needs
+cast-result-4 : tie.Need-cast-result-4
+cast-result-4 c = widened-fits w16 w64 (c .signed16 .result) tt (search needs)
 
 add-end-5 : tie.Need-add-end-5
 add-end-5 c = search needs
@@ -114,14 +113,14 @@ be32-requires c κs = search needs
 signed32-requires : tie.Need-signed32-requires
 signed32-requires c κs = search needs
 
-cast-result-4 : tie.Need-cast-result-4
-cast-result-4 c = widened-fits w32 w64 (c .signed32 .result) tt (search needs)
-
-byte-requires-5 : tie.Need-byte-requires-5
-byte-requires-5 c κs = search needs
-
 cast-result-5 : tie.Need-cast-result-5
-cast-result-5 c = search needs
+cast-result-5 c = widened-fits w32 w64 (c .signed32 .result) tt (search needs)
+
+byte-requires-3 : tie.Need-byte-requires-3
+byte-requires-3 c κs = search needs
+
+cast-result-6 : tie.Need-cast-result-6
+cast-result-6 c = search needs
 
 returns : tie.Need-returns
 returns c =
@@ -143,10 +142,9 @@ returns-3 c =
 
 returns-4 : tie.Need-returns-4
 returns-4 c =
-    let m = c .before .before .before .before in
+    let m = c .before .before .before in
     let g = m .before .before .args in
-    let f : toZ w64 (ofZ w64 (c .signed-pair .result)) ≡ c .signed-pair .result = search needs in
-    f ∙ c .signed-pair .ensures ∙ ap (signed 2) (read-pair (g .p) (g .l .now) _ _ (c .before .before .byte3 .ensures) (c .before .byte4 .ensures)) ∙ whole-short (g .l .now) (g .p) (g .code) (m .match .keys4)
+    widened w16 w64 _ tt (search needs) ∙ c .signed16 .ensures ∙ ap (signed 2) (c .before .be162 .ensures ∙ be-part 2 (g .p) (g .l .now)) ∙ whole-short (g .l .now) (g .p) (g .code) (m .match .keys4)
 
 returns-5 : tie.Need-returns-5
 returns-5 c =
@@ -157,7 +155,7 @@ returns-5 c =
 returns-6 : tie.Need-returns-6
 returns-6 c =
     let g = c .before .before .before .args in
-    toZ-pos w64 (omega arith) ∙ ap pos (c .byte5 .ensures) ∙ whole-byte (g .l .now) (g .p) (g .code) (λ e. omega arith) (λ e. omega arith) (λ e. omega arith) (λ e. omega arith)
+    toZ-pos w64 (omega arith) ∙ ap pos (c .byte3 .ensures) ∙ whole-byte (g .l .now) (g .p) (g .code) (λ e. omega arith) (λ e. omega arith) (λ e. omega arith) (λ e. omega arith)
 
 pub whole-at-spec : {M : Type 1} → statement M
 whole-at-spec =
@@ -183,21 +181,21 @@ whole-at-spec =
     be16-requires
     cast-result-3
     add-end-4
-    sub-x
-    part-x-start
-    part-x-end
-    byte-requires-3
-    byte-requires-4
-    signed-pair-requires
+    sub-be16-2
+    part-be16-start-2
+    part-be16-end-2
+    be16-requires-2
+    signed16-requires
+    cast-result-4
     add-end-5
     sub-be32
     part-be32-start
     part-be32-end
     be32-requires
     signed32-requires
-    cast-result-4
-    byte-requires-5
     cast-result-5
+    byte-requires-3
+    cast-result-6
     returns
     returns-2
     returns-3

@@ -1,4 +1,4 @@
-use Prim.Native.Nat.{_-_, _*_}
+use Prim.Native.Nat.{_*_}
 use mathlib.Core.Path.{_≡_, _∙_, sym}
 use mathlib.Core.Bool.{true}
 use native.Mathlib.Omega.{arith}
@@ -28,18 +28,21 @@ returns-2 c = let w = c .before .before .before .before in
     let e = of-none (g .s .now) (g .q) (g .first) (length (g .out .now)) (sym (w .is-whole .ensures) ∙ c .before .before .before .if1 .taken) (rw (le-leb 1 (g .first) (omega arith), lt-leb (g .first) (g .q .count) (omega arith))) in
     (rw e, rw e)
 
-cast-n : tie.Need-cast-n
-cast-n c = search needs
-
-sub-n : tie.Need-sub-n
-sub-n c = search needs
-
 returns-3 : tie.Need-returns-3
-returns-3 c = let w = c .before .before .before .before .before .before in
+returns-3 c = let w = c .before .before .before .before .before in
     let g = w .before .before .args in
     let f : isNumberOf (g .first) (g .q .count) ≡ true = rw (le-leb 1 (g .first) (omega arith), le-leb (g .first) (g .q .count) (omega arith)) in
-    let e = of-little (g .s .now) (g .q) (g .first) (length (g .out .now)) (sym (w .is-whole .ensures) ∙ c .before .before .before .before .before .if1 .taken) f (lt-leb (g .q .count - (g .first - 1)) (length (g .out .now)) (omega arith)) in
+    let e = of-little (g .s .now) (g .q) (g .first) (length (g .out .now)) (sym (w .is-whole .ensures) ∙ c .before .before .before .before .if1 .taken) f (c .if4 .taken) in
     (rw e, rw e)
+
+cast-smaller : tie.Need-cast-smaller
+cast-smaller c = search needs
+
+sub-smaller : tie.Need-sub-smaller
+sub-smaller c = search needs
+
+smaller-requires : tie.Need-smaller-requires
+smaller-requires c κs = search needs
 
 width-of-requires : tie.Need-width-of-requires
 width-of-requires c κs = search needs
@@ -59,16 +62,20 @@ cast-copy-of-type c = search needs
 copy-of-type-requires : tie.Need-copy-of-type-requires
 copy-of-type-requires c κs = let a = c .before .before .before in
     let d = a .before in
-    let t = d .before .before .before in
+    let n = d .before in
+    let t = n .before .before .before in
     let i = t .before .before .before in
     let w = i .before in
     let z = w .before .before in
     let g = z .args in
     let k = whole-listed (g .q .«element_type») (sym (w .is-whole .ensures) ∙ i .if1 .taken) in
     let e : g .q .size ≡ d .width-of .result * g .q .count = z .pre .sizes _ k ∙ rw (d .width-of .ensures) in
-    let l = last-place (d .width-of .result) (g .first) (g .q .count) (t .before .before .if2 .left) (t .if3 .left) in
+    let m = n .smaller .ensures in
+    let h = t .before .before .if2 .left in
+    let v = t .if3 .left in
+    let l = last-place (d .width-of .result) (g .first) (n .smaller .result) (g .q .count) (omega arith) in
     let p = a .element-place .ensures .0 in
-    (d .width-of .ensures, simp length-take (omega arith), d .before .if4 .left)
+    (d .width-of .ensures, simp length-take (omega arith), omega arith)
 
 same-length : tie.Need-same-length
 same-length c = search needs
@@ -77,14 +84,15 @@ returns-4 : tie.Need-returns-4
 returns-4 c = let y = c .before in
     let a = y .before .before .before .before in
     let d = a .before in
-    let t = d .before .before .before in
+    let n = d .before in
+    let r = n .before .before in
+    let t = r .before in
     let i = t .before .before .before in
     let w = i .before in
     let z = w .before .before in
     let g = z .args in
     let f : isNumberOf (g .first) (g .q .count) ≡ true = rw (le-leb 1 (g .first) (t .before .before .if2 .left), le-leb (g .first) (g .q .count) (t .if3 .left)) in
-    let r = le-leb (g .q .count - (g .first - 1)) (length (g .out .now)) (d .before .if4 .left) in
-    of-copied (g .s .now) (g .q) (g .first) (g .out .now) _ (d .width-of .result) _ (a .element-place .ensures .0) (d .width-of .ensures) (sym (w .is-whole .ensures) ∙ i .if1 .taken) f r (z .pre .within) (y .copy-of-type .ensures)
+    of-copied (g .s .now) (g .q) (g .first) (g .out .now) _ (d .width-of .result) _ _ (a .element-place .ensures .0) (d .width-of .ensures) (n .smaller .ensures) (sym (w .is-whole .ensures) ∙ i .if1 .taken) f (r .if4 .left) (z .pre .within) (y .copy-of-type .ensures)
 
 returns-5 : tie.Need-returns-5
 returns-5 c = let w = c .before in
@@ -100,9 +108,10 @@ numbers-of-spec =
     returns
     cast-if3
     returns-2
-    cast-n
-    sub-n
     returns-3
+    cast-smaller
+    sub-smaller
+    smaller-requires
     width-of-requires
     element-place-requires
     add-end

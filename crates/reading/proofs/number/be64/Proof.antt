@@ -1,21 +1,12 @@
 use mathlib.Core.Path.{sym}
 use native.Mathlib.Omega.{arith}
-use borrow.Author.Needs.{needs}
 use Rattle.reading.proofs.Width.{be-past, be-split}
+use borrow.Author.Needs.{needs}
 use Rattle.reading.proofs.number.be64.Statement.{statement}
 use Rattle.reading.proofs.number.be64.Tie as tie
 
 returns : tie.Need-returns
 returns c = sym (be-past 8 (c .before .before .args .p) (c .before .before .args .s .now) (omega arith))
-
-sub-if2 : tie.Need-sub-if2
-sub-if2 c = search needs
-
-be64-inside-requires : tie.Need-be64-inside-requires
-be64-inside-requires c κs = search needs
-
-returns-2 : tie.Need-returns-2
-returns-2 c = search needs
 
 be32-requires : tie.Need-be32-requires
 be32-requires c κs = search needs
@@ -38,17 +29,14 @@ mul-result c = search needs
 add-result : tie.Need-add-result
 add-result c = search needs
 
-returns-3 : tie.Need-returns-3
-returns-3 c = rw (be-split 4 4) (omega arith)
+returns-2 : tie.Need-returns-2
+returns-2 c = rw (be-split 4 4) (omega arith)
 
 pub be64-spec : {M : Type 1} → statement M
 be64-spec =
     tie.close
     (tie.spec
     returns
-    sub-if2
-    be64-inside-requires
-    returns-2
     be32-requires
     cast-high
     add-be32
@@ -56,4 +44,4 @@ be64-spec =
     cast-low
     mul-result
     add-result
-    returns-3)
+    returns-2)

@@ -1,16 +1,18 @@
-use native.Mathlib.Nat.{add-zero}
+use mathlib.Core.Path.{sym, _∙_}
 use native.Mathlib.Omega.{arith}
+use Rattle.reading.proofs.Width.{byte-le, le-byte, be-past}
 use borrow.Author.Needs.{needs}
-use Rattle.reading.specs.Number.{be}
 use Rattle.reading.proofs.number.byte.Statement.{statement}
 use Rattle.reading.proofs.number.byte.Tie as tie
 
-first-requires : tie.Need-first-requires
-first-requires c κs = search needs
+shared-slice-read-result : tie.Need-shared-slice-read-result
+shared-slice-read-result c = search needs
 
 returns : tie.Need-returns
-unfolding be
-returns c = simp add-zero (omega arith)
+returns c = sym (byte-le (c .before .before .args .s .now) (c .before .before .args .p) ∙ le-byte (c .before .before .args .s .now) (c .before .before .args .p))
+
+returns-2 : tie.Need-returns-2
+returns-2 c = sym (be-past 1 (c .before .args .p) (c .before .args .s .now) (omega arith))
 
 pub byte-spec : {M : Type 1} → statement M
-byte-spec = tie.close (tie.spec first-requires returns)
+byte-spec = tie.close (tie.spec shared-slice-read-result returns returns-2)

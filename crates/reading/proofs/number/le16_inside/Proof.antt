@@ -1,7 +1,6 @@
-use native.Mathlib.Nat.{add-zero}
 use native.Mathlib.Omega.{arith}
+use Rattle.reading.proofs.Width.{le-split, le-byte}
 use borrow.Author.Needs.{needs}
-use Rattle.reading.specs.Number.{le}
 use Rattle.reading.proofs.number.le16_inside.Statement.{statement}
 use Rattle.reading.proofs.number.le16_inside.Tie as tie
 
@@ -27,8 +26,7 @@ add-result : tie.Need-add-result
 add-result c = search needs
 
 returns : tie.Need-returns
-unfolding le
-returns c = simp add-zero (omega arith)
+returns c = rw (le-split 1 1, le-byte, le-byte) (omega arith)
 
 pub le16-inside-spec : {M : Type 1} → statement M
 le16-inside-spec =

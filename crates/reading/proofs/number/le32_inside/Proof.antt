@@ -1,24 +1,23 @@
-use native.Mathlib.Nat.{add-zero}
 use native.Mathlib.Omega.{arith}
+use Rattle.reading.proofs.Width.{le-split}
 use borrow.Author.Needs.{needs}
-use Rattle.reading.specs.Number.{le}
 use Rattle.reading.proofs.number.le32_inside.Statement.{statement}
 use Rattle.reading.proofs.number.le32_inside.Tie as tie
 
-shared-slice-read-wide32 : tie.Need-shared-slice-read-wide32
-shared-slice-read-wide32 c = search needs
+le16-inside-requires : tie.Need-le16-inside-requires
+le16-inside-requires c κs = search needs
 
-wide32-requires : tie.Need-wide32-requires
-wide32-requires c κs = search needs
+cast-low : tie.Need-cast-low
+cast-low c = search needs
 
-add-wide32 : tie.Need-add-wide32
-add-wide32 c = search needs
+add-le16-inside : tie.Need-add-le16-inside
+add-le16-inside c = search needs
 
-shared-slice-read-wide32-2 : tie.Need-shared-slice-read-wide32-2
-shared-slice-read-wide32-2 c = search needs
+le16-inside-requires-2 : tie.Need-le16-inside-requires-2
+le16-inside-requires-2 c κs = search needs
 
-wide32-requires-2 : tie.Need-wide32-requires-2
-wide32-requires-2 c κs = search needs
+cast-high : tie.Need-cast-high
+cast-high c = search needs
 
 mul-result : tie.Need-mul-result
 mul-result c = search needs
@@ -26,59 +25,18 @@ mul-result c = search needs
 add-result : tie.Need-add-result
 add-result c = search needs
 
-add-wide32-2 : tie.Need-add-wide32-2
-add-wide32-2 c = search needs
-
-shared-slice-read-wide32-3 : tie.Need-shared-slice-read-wide32-3
-shared-slice-read-wide32-3 c = search needs
-
-wide32-requires-3 : tie.Need-wide32-requires-3
-wide32-requires-3 c κs = search needs
-
-mul-result-2 : tie.Need-mul-result-2
-mul-result-2 c = search needs
-
-add-result-2 : tie.Need-add-result-2
-add-result-2 c = search needs
-
-add-wide32-3 : tie.Need-add-wide32-3
-add-wide32-3 c = search needs
-
-shared-slice-read-wide32-4 : tie.Need-shared-slice-read-wide32-4
-shared-slice-read-wide32-4 c = search needs
-
-wide32-requires-4 : tie.Need-wide32-requires-4
-wide32-requires-4 c κs = search needs
-
-mul-result-3 : tie.Need-mul-result-3
-mul-result-3 c = search needs
-
-add-result-3 : tie.Need-add-result-3
-add-result-3 c = search needs
-
 returns : tie.Need-returns
-unfolding le
-returns c = simp add-zero (omega arith)
+returns c = rw (le-split 2 2) (omega arith)
 
 pub le32-inside-spec : {M : Type 1} → statement M
 le32-inside-spec =
     tie.close
     (tie.spec
-    shared-slice-read-wide32
-    wide32-requires
-    add-wide32
-    shared-slice-read-wide32-2
-    wide32-requires-2
+    le16-inside-requires
+    cast-low
+    add-le16-inside
+    le16-inside-requires-2
+    cast-high
     mul-result
     add-result
-    add-wide32-2
-    shared-slice-read-wide32-3
-    wide32-requires-3
-    mul-result-2
-    add-result-2
-    add-wide32-3
-    shared-slice-read-wide32-4
-    wide32-requires-4
-    mul-result-3
-    add-result-3
     returns)

@@ -1,21 +1,27 @@
-use native.Mathlib.Nat.{add-zero}
+use mathlib.Core.Path.{sym}
 use native.Mathlib.Omega.{arith}
+use Rattle.reading.proofs.Width.{le-split, le-past}
 use borrow.Author.Needs.{needs}
-use Rattle.reading.specs.Number.{le}
 use Rattle.reading.proofs.number.le32_past.Statement.{statement}
 use Rattle.reading.proofs.number.le32_past.Tie as tie
 
-first-requires : tie.Need-first-requires
-first-requires c κs = search needs
+returns : tie.Need-returns
+returns c = sym (le-past 4 (c .before .before .args .p) (c .before .before .args .s .now) (omega arith))
 
-wide32-requires : tie.Need-wide32-requires
-wide32-requires c κs = search needs
+le16-requires : tie.Need-le16-requires
+le16-requires c κs = search needs
 
-byte-after-requires : tie.Need-byte-after-requires
-byte-after-requires c κs = search needs
+cast-low : tie.Need-cast-low
+cast-low c = search needs
 
-wide32-requires-2 : tie.Need-wide32-requires-2
-wide32-requires-2 c κs = search needs
+add-le16 : tie.Need-add-le16
+add-le16 c = search needs
+
+le16-requires-2 : tie.Need-le16-requires-2
+le16-requires-2 c κs = search needs
+
+cast-high : tie.Need-cast-high
+cast-high c = search needs
 
 mul-result : tie.Need-mul-result
 mul-result c = search needs
@@ -23,50 +29,19 @@ mul-result c = search needs
 add-result : tie.Need-add-result
 add-result c = search needs
 
-byte-after-requires-2 : tie.Need-byte-after-requires-2
-byte-after-requires-2 c κs = search needs
-
-wide32-requires-3 : tie.Need-wide32-requires-3
-wide32-requires-3 c κs = search needs
-
-mul-result-2 : tie.Need-mul-result-2
-mul-result-2 c = search needs
-
-add-result-2 : tie.Need-add-result-2
-add-result-2 c = search needs
-
-byte-after-requires-3 : tie.Need-byte-after-requires-3
-byte-after-requires-3 c κs = search needs
-
-wide32-requires-4 : tie.Need-wide32-requires-4
-wide32-requires-4 c κs = search needs
-
-mul-result-3 : tie.Need-mul-result-3
-mul-result-3 c = search needs
-
-add-result-3 : tie.Need-add-result-3
-add-result-3 c = search needs
-
-returns : tie.Need-returns
-unfolding le
-returns c = simp add-zero (omega arith)
+returns-2 : tie.Need-returns-2
+returns-2 c = rw (le-split 2 2) (omega arith)
 
 pub le32-past-spec : {M : Type 1} → statement M
 le32-past-spec =
     tie.close
     (tie.spec
-    first-requires
-    wide32-requires
-    byte-after-requires
-    wide32-requires-2
+    returns
+    le16-requires
+    cast-low
+    add-le16
+    le16-requires-2
+    cast-high
     mul-result
     add-result
-    byte-after-requires-2
-    wide32-requires-3
-    mul-result-2
-    add-result-2
-    byte-after-requires-3
-    wide32-requires-4
-    mul-result-3
-    add-result-3
-    returns)
+    returns-2)

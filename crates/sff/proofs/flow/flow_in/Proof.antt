@@ -1,9 +1,11 @@
 use Prim.Native.Nat.{_+_, _-_}
 use native.Mathlib.Omega.{arith}
+use lib.ListN.{length-take}
 use borrow.Author.Needs.{needs}
 use Rattle.reading.specs.Check.{answer}
 use Rattle.reading.proofs.Tests.{tests}
 use Rattle.sff.specs.Flow.{flowOf}
+use Rattle.contents.proofs.steps.Laws.{sum-whole}
 use Rattle.sff.proofs.flow.Laws.{flow-found}
 use Rattle.sff.proofs.flow.flow_in.Statement.{statement}
 use Rattle.sff.proofs.flow.flow_in.Tie as tie
@@ -40,7 +42,7 @@ returns-3 c =
     let z = o .before .before in
     let g = z .args in
     let p = g .r .«steps_start» in
-    flow-found (g .r) (g .base) (g .s .now) (z .pre) (c .sum-of .result) (p + g .base .0 - p) (omega arith) (c .sum-of .ensures) (o .if1 .left) (c .before .before .if2 .left)
+    flow-found (g .r) (g .base) (g .s .now) (z .pre) (c .sum-of .result) (p + g .base .0 - p) (omega arith) (sum-whole 0x1000000000000 (c .sum-of .result) _ (c .sum-of .ensures) (simp length-take (omega arith))) (o .if1 .left) (c .before .before .if2 .left)
 
 pub flow-in-spec : {M : Type 1} → statement M
 flow-in-spec =
