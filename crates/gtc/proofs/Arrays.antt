@@ -9,30 +9,31 @@ use Rattle.reading.proofs.Signed.{equal-to-is}
 use Rattle.gtc.specs.declared.entry.Entry.{Entry}
 use Rattle.gtc.specs.declared.item.Shape.{Shape}
 use Rattle.gtc.specs.declared.item.Shape.the-variants.{Array, SnpArray}
-use Rattle.gtc.specs.declared.item.Listing.{Listing}
-use Rattle.gtc.specs.declared.item.Listing.the-variants.{Shaped}
+use Rattle.gtc.specs.declared.item.Stored.{Stored}
+use Rattle.gtc.specs.declared.item.Stored.the-variants.{Shaped}
+use Rattle.gtc.specs.declared.item.Listing.the-variants.{Listed}
 use Rattle.gtc.specs.declared.item.ItemData.{ItemData}
 use Rattle.gtc.specs.Table.{Table, table}
 use Rattle.gtc.specs.Entry.{entryWith}
 use Rattle.gtc.specs.Item.{listingOf, countField, arrayCount, elementsOf, snpCheck, shapeCheck, shapedCheck, itemCheck}
-use Rattle.gtc.specs.Lookup.{lookupListed, lookupIn, lookingUp}
-use Rattle.gtc.proofs.entry.Laws.{with-found}
+use Rattle.gtc.specs.Lookup.{storedAs, lookupListed, lookupIn, lookingUp}
+use Rattle.gtc.proofs.lookup.Laws.{stored-ok}
 
 -- what lookup of an id with a shape has passed
-record Shapes (k : ℕ) (z : Shape) (s : List ℕ) (q : ItemData) : Type 0 where
+record Shapes (z : Shape) (s : List ℕ) (q : ItemData) : Type 0 where
   contents : Table
   opened : answer table s ≡ ok contents
   entry : Entry
   passed : answer (shapeCheck z (contents .upTo) (contents .count) entry) s ≡ ok q
 
-shaped : (k : ℕ) (z : Shape) (s : List ℕ) (q : ItemData) → listingOf k ≡ Shaped z → answer (lookingUp k) s ≡ ok q → Shapes k z s q
+shaped : (k : ℕ) (z : Shape) (s : List ℕ) (q : ItemData) → listingOf k ≡ Listed (Shaped z) → answer (lookingUp k) s ≡ ok q → Shapes z s q
 unfolding lookingUp lookupIn lookupListed itemCheck shapedCheck
 shaped k z s q e w =
     let t = bind-ok table _ s q w in
-    let a = bind-ok _ _ s q (t .2) in
+    let a = bind-ok (storedAs (listingOf k)) _ s q (t .2) in
     let d = bind-ok (entryWith (t .0 .upTo) (t .0 .count) k) _ s q (a .2) in
-    let i : listingOf (d .0 .id) ≡ Shaped z = ap listingOf (with-found s _ _ k (d .0) (d .1) .3) ∙ e in
-    let b = bind-ok _ _ s q (subst (λ (v : Listing). answer (itemCheck v (t .0 .upTo) (t .0 .count) (d .0)) s ≡ ok q) i (d .2)) in
+    let i : a .0 ≡ Shaped z = cc (stored-ok (listingOf k) s (a .0) (a .1)) in
+    let b = bind-ok _ _ s q (subst (λ (v : Stored). answer (itemCheck v (t .0 .upTo) (t .0 .count) (d .0)) s ≡ ok q) i (d .2)) in
     record { contents = t .0; opened = t .1; entry = d .0; passed = b .2 }
 
 sized : (w : ℕ) (d : Entry) (n : ℕ) (s : List ℕ) (q : ItemData) → answer (elementsOf w d n) s ≡ ok q → (q .count ≡ n) × (q .size ≡ w * q .count)
@@ -42,7 +43,7 @@ sized w d n s q h =
     let e = done-ok _ q s (a .2) in
     (ap (λ (x : ItemData). x .count) (sym e), ap (λ (x : ItemData). x .size) (sym e) ∙ ap (λ (x : ItemData). w * x .count) e)
 
-pub array-sized : (k w : ℕ) (s : List ℕ) (q : ItemData) → listingOf k ≡ Shaped (Array w) → answer (lookingUp k) s ≡ ok q → q .size ≡ w * q .count
+pub array-sized : (k w : ℕ) (s : List ℕ) (q : ItemData) → listingOf k ≡ Listed (Shaped (Array w)) → answer (lookingUp k) s ≡ ok q → q .size ≡ w * q .count
 unfolding shapeCheck
 array-sized k w s q e h =
     let f = shaped k (Array w) s q e h in
@@ -58,7 +59,7 @@ pub record OfSnps (w : ℕ) (s : List ℕ) (q : ItemData) : Type 0 where
   pub known : answer (entryWith (contents .upTo) (contents .count) 1) s ≡ ok snps
   pub count : q .count ≡ snps .offset
 
-pub of-snps : (k w : ℕ) (s : List ℕ) (q : ItemData) → listingOf k ≡ Shaped (SnpArray w) → answer (lookingUp k) s ≡ ok q → OfSnps w s q
+pub of-snps : (k w : ℕ) (s : List ℕ) (q : ItemData) → listingOf k ≡ Listed (Shaped (SnpArray w)) → answer (lookingUp k) s ≡ ok q → OfSnps w s q
 unfolding shapeCheck snpCheck
 of-snps k w s q e h =
     let f = shaped k (SnpArray w) s q e h in

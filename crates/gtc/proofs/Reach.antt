@@ -1,32 +1,31 @@
 -- What the reading calls of GTC need: judging just the extent that it answers, and no other call more.
 -- Assumes nothing.
 use Prim.Native.Nat.{ℕ, _+_, _≤_, _<_, max, min}
-use mathlib.Core.Path.{_≡_, sym, _∙_, ap, subst}
+use mathlib.Core.Path.{_≡_, refl, sym, _∙_, ap, subst}
 use mathlib.Core.List.{List}
-use mathlib.Core.Bool.{Bool, true, false, not}
 use native.Mathlib.Omega.{arith}
 use lib.ListN.{length, take, length-take}
-use Rattle.reading.specs.Choice.{pick}
-use Rattle.reading.specs.declared.check.Rule.the-variants.{Other}
-use Rattle.reading.specs.Check.{Check, ok, answer, reach, holds, done, must, _>>=_, _>>_}
+use Rattle.reading.specs.Check.{ok, answer, reach}
 use Rattle.reading.specs.Entries.{inOrder}
 use Rattle.reading.proofs.Cut.{answer-same}
 use Rattle.reading.proofs.Steps.{reach-done, reach-must, reach-need}
-use Rattle.reading.proofs.Passed.{bind-ok, done-ok, must-ok, ok-inj}
+use Rattle.reading.proofs.Passed.{bind-ok, done-ok, ok-inj}
 use Rattle.reading.proofs.Reach.{reach-none, reach-under, reach-must-under, reach-need-under, reach-done-under}
 use Rattle.reading.proofs.entries.Laws.{beyond, order-ends}
-use Rattle.reading.proofs.Tests.{no}
 use Rattle.gtc.specs.declared.entry.Entry.{Entry}
+use Rattle.gtc.specs.declared.item.Stored.{Stored}
+use Rattle.gtc.specs.declared.item.Listing.{Listing}
+use Rattle.gtc.specs.declared.item.Listing.the-variants.{Listed, Unlisted}
 use Rattle.gtc.specs.declared.item.ItemData.{ItemData}
 use Rattle.gtc.specs.declared.snp.SnpArrays.{SnpArrays}
 use Rattle.gtc.specs.Table.{Table, tableEnd, markCheck, countCheck, table}
-use Rattle.gtc.specs.Entry.{entryPlace, entryOf, entryWith, idField}
-use Rattle.gtc.specs.Item.{listingOf, isListed, itemCheck, itemEnd}
-use Rattle.gtc.specs.Judge.{Extent, newId, idAmong, judgeEntry, judgeTable, judging}
-use Rattle.gtc.specs.Lookup.{lookupListed, lookupIn, lookingUp}
+use Rattle.gtc.specs.Entry.{entryPlace, entryOf}
+use Rattle.gtc.specs.Item.{listingOf, itemCheck, itemEnd}
+use Rattle.gtc.specs.Judge.{Extent, judgeAs, judgeEntry, judgeTable, judging}
+use Rattle.gtc.specs.Lookup.{storedAs, lookupListed, lookupIn, lookingUp}
 use Rattle.gtc.proofs.entry.Laws.{with-found, with-none-needed, entry-place}
 use Rattle.gtc.proofs.item.Laws.{item-end}
-use Rattle.gtc.proofs.lookup.Laws.{lookup-within}
+use Rattle.gtc.proofs.lookup.Laws.{stored-ok, lookup-within}
 use Rattle.gtc.specs.Genotype.{decoding}
 use Rattle.gtc.specs.Snp.{callArrays, intensityArrays, snpArrays, elements, SnpBytes, snpBytes, snpAt, snpOf, snpReading}
 use Rattle.gtc.specs.Snps.{snpsOf, snpsReading}
@@ -51,41 +50,38 @@ table-reach s t w =
     let g = done-ok _ t s (e .2) in
     simp (b .3, c .3, d .3, e .3, mark-none, count-none, reach-need, reach-done, ← g) (omega arith)
 
--- the checks of entry d as an item
-abbrev checksOf : List ℕ → ℕ → Entry → Check ItemData
-checksOf h n d = itemCheck (listingOf (d .id)) h n d
+-- the checks of an entry whose id is listed need no more than x bytes
+abbrev Within : List ℕ → ℕ → List ℕ → ℕ → Entry → Type 0
+Within h n s x d = (v : Stored) → listingOf (d .id) ≡ Listed v → reach (itemCheck v h n d) s ≤ x
 
 -- an entry's end is what judging it needs beyond the table, and a listed entry's own checks need no more
-entry-end : (h : List ℕ) (n i : ℕ) (s : List ℕ) (y : ℕ) → answer (judgeEntry h n i) s ≡ ok y → (max (tableEnd (i + 1)) (reach (judgeEntry h n i) s) ≡ max (tableEnd (i + 1)) y) × (isListed (listingOf (entryOf h (entryPlace i) .id)) ≡ true → reach (checksOf h n (entryOf h (entryPlace i))) s ≤ max (tableEnd (i + 1)) y)
-unfolding judgeEntry
-entry-end h n i s y w = go (isListed (listingOf (d .id))) w
+entry-end : (h : List ℕ) (n i : ℕ) (s : List ℕ) (y : ℕ) → answer (judgeEntry h n i) s ≡ ok y → (max (tableEnd (i + 1)) (reach (judgeEntry h n i) s) ≡ max (tableEnd (i + 1)) y) × Within h n s (max (tableEnd (i + 1)) y) (entryOf h (entryPlace i))
+unfolding judgeEntry judgeAs
+entry-end h n i s y w = go (listingOf (d .id)) refl w
   where
     d : Entry
     d = entryOf h (entryPlace i)
 
-    listed : Check ℕ
-    listed = must (idField d) (Other newId (not (idAmong h (d .id) i))) 8 >> (itemCheck (listingOf (d .id)) h n d >>= (λ q. done (itemEnd q)))
-
-    go : (b : Bool) → answer (pick b listed (done 0)) s ≡ ok y → (max (tableEnd (i + 1)) (reach (pick b listed (done 0)) s) ≡ max (tableEnd (i + 1)) y) × (b ≡ true → reach (itemCheck (listingOf (d .id)) h n d) s ≤ max (tableEnd (i + 1)) y)
-    go true v =
-        let a = bind-ok _ _ s y v in
-        let b = bind-ok (itemCheck (listingOf (d .id)) h n d) _ s y (a .2) in
+    go : (l : Listing) → listingOf (d .id) ≡ l → answer (judgeAs l h n i d) s ≡ ok y → (max (tableEnd (i + 1)) (reach (judgeAs l h n i d) s) ≡ max (tableEnd (i + 1)) y) × Within h n s (max (tableEnd (i + 1)) y) d
+    go (Listed v) f q =
+        let a = bind-ok _ _ s y q in
+        let b = bind-ok (itemCheck v h n d) _ s y (a .2) in
         let z : itemEnd (b .0) ≡ y = done-ok _ y s (b .2) in
-        let e = item-end (listingOf (d .id)) h n d s (b .0) (b .1) in
+        let e = item-end v h n d s (b .0) (b .1) in
         let p : d .place ≡ entryPlace i = entry-place h (entryPlace i) in
-        (simp (a .3, b .3, reach-must, reach-done) (omega arith), λ _. omega arith)
-    go false v =
-        let z : 0 ≡ y = done-ok 0 y s v in
-        (simp reach-done (omega arith), λ f. absurd (no f))
+        (simp (a .3, b .3, reach-must, reach-done) (omega arith), λ u r. let k : v ≡ u = cc in rw (← k) (omega arith))
+    go Unlisted f q =
+        let z : 0 ≡ y = done-ok 0 y s q in
+        (simp reach-done (omega arith), λ u r. let k : _≡_ {A = ℕ} 0 1 = cc in absurd (omega arith))
 
 -- the entries of a file that is judged whole end within the extent, and need no more
-each-end : (h : List ℕ) (n : ℕ) (s : List ℕ) (z : ℕ) → answer (inOrder (judgeEntry h n) n 0 (tableEnd n)) s ≡ ok z → (max (tableEnd n) (reach (inOrder (judgeEntry h n) n 0 (tableEnd n)) s) ≡ z) × (tableEnd n ≤ z) × ((j : ℕ) → j < n → isListed (listingOf (entryOf h (entryPlace j) .id)) ≡ true → reach (checksOf h n (entryOf h (entryPlace j))) s ≤ z)
+each-end : (h : List ℕ) (n : ℕ) (s : List ℕ) (z : ℕ) → answer (inOrder (judgeEntry h n) n 0 (tableEnd n)) s ≡ ok z → (max (tableEnd n) (reach (inOrder (judgeEntry h n) n 0 (tableEnd n)) s) ≡ z) × (tableEnd n ≤ z) × ((j : ℕ) → j < n → Within h n s z (entryOf h (entryPlace j)))
 each-end h n s z w =
     let g = order-ends (judgeEntry h n) s (tableEnd n) n 0 (tableEnd n) z (omega arith) (λ j y _ l o. beyond (tableEnd (j + 1)) (tableEnd n) _ y (omega arith) (entry-end h n j s y o .0)) w in
-    (g .0, g .1, λ j l u. let v = g .2 j (omega arith) (omega arith) in omega (arith, entry-end h n j s (v .0) (v .1) .1 u))
+    (g .0, g .1, λ j l u r. let v = g .2 j (omega arith) (omega arith) in omega (arith, entry-end h n j s (v .0) (v .1) .1 u r))
 
 -- what judging has found in a whole file
-whole : (s : List ℕ) (v : Extent) → answer judging s ≡ ok v → (t : Table) × (answer table s ≡ ok t) × (reach judging s ≡ v .extent) × (tableEnd (t .count) ≤ v .extent) × ((j : ℕ) → j < t .count → isListed (listingOf (entryOf (t .upTo) (entryPlace j) .id)) ≡ true → reach (checksOf (t .upTo) (t .count) (entryOf (t .upTo) (entryPlace j))) s ≤ v .extent)
+whole : (s : List ℕ) (v : Extent) → answer judging s ≡ ok v → (t : Table) × (answer table s ≡ ok t) × (reach judging s ≡ v .extent) × (tableEnd (t .count) ≤ v .extent) × ((j : ℕ) → j < t .count → Within (t .upTo) (t .count) s (v .extent) (entryOf (t .upTo) (entryPlace j)))
 unfolding judging judgeTable
 whole s v w =
     let a = bind-ok table _ s v w in
@@ -94,29 +90,29 @@ whole s v w =
     let z : b .0 ≡ v .extent = ap (λ (x : Extent). x .extent) (done-ok _ v s (b .2)) in
     let f = table-reach s t (a .1) in
     let g = each-end (t .upTo) (t .count) s (b .0) (b .1) in
-    (t, a .1, simp (a .3, b .3, f, reach-done) (omega arith), omega arith, λ j l u. omega (arith, g .2 j l u))
+    (t, a .1, simp (a .3, b .3, f, reach-done) (omega arith), omega arith, λ j l u r. omega (arith, g .2 j l u r))
 
 -- the extent is the number of bytes that judging needs
 pub extent : (s : List ℕ) (v : Extent) → answer judging s ≡ ok v → reach judging s ≡ v .extent
 extent s v w = whole s v w .2
 
+stored-under : (x : ℕ) (l : Listing) (s : List ℕ) → reach (storedAs l) s ≤ x
+unfolding storedAs
+stored-under x (Listed v) s = reach-done-under x _ s
+stored-under x Unlisted s = reach-under x _ _ s (reach-must-under x _ _ _ s) (λ _ _. reach-done-under x _ s)
+
 pub lookup-under : (k : ℕ) (s : List ℕ) (v : Extent) → answer judging s ≡ ok v → reach (lookingUp k) s ≤ v .extent
-unfolding lookingUp lookupIn lookupListed holds
+unfolding lookingUp lookupIn lookupListed
 lookup-under k s v w =
     let x = v .extent in
     let a = whole s v w in
     reach-under x _ _ s (omega (arith, table-reach s (a .0) (a .1))) (λ t e.
     let q : a .0 ≡ t = ok-inj (sym (a .1) ∙ e) in
     subst (λ (t : Table). reach (lookupIn (t .upTo) (t .count) k) s ≤ x) q
-    (reach-under x _ _ s (reach-must-under x _ _ _ s) (λ u l.
+    (reach-under x _ _ s (stored-under x (listingOf k) s) (λ u l.
     reach-under x _ _ s (rw (with-none-needed s (a .0 .upTo) (a .0 .count) k) (omega arith)) (λ d f.
-    item-under x (a .0 .upTo) (a .0 .count) k d s f (must-ok _ _ _ s u l) (a .4)))))
-  where
-    item-under : (x : ℕ) (h : List ℕ) (n k : ℕ) (d : Entry) (s : List ℕ) → answer (entryWith h n k) s ≡ ok d → isListed (listingOf k) ≡ true → ((j : ℕ) → j < n → isListed (listingOf (entryOf h (entryPlace j) .id)) ≡ true → reach (checksOf h n (entryOf h (entryPlace j))) s ≤ x) → reach (itemCheck (listingOf (d .id)) h n d) s ≤ x
-    item-under x h n k d s f l g =
-        let p = with-found s h n k d f in
-        let m : isListed (listingOf (d .id)) ≡ true = rw (p .3) l in
-        subst (λ (d : Entry). reach (checksOf h n d) s ≤ x) (sym (p .2)) (g (p .0) (p .1) (subst (λ (d : Entry). isListed (listingOf (d .id)) ≡ true) (p .2) m))
+    let p = with-found s (a .0 .upTo) (a .0 .count) k d f in
+    subst (Within (a .0 .upTo) (a .0 .count) s x) (sym (p .2)) (a .4 (p .0) (p .1)) u (ap listingOf (p .3) ∙ stored-ok (listingOf k) s u l)))))
 
 -- the data that lookup finds lie within the extent
 pub found-under : (k : ℕ) (s : List ℕ) (v : Extent) → answer judging s ≡ ok v → (q : ItemData) → answer (lookingUp k) s ≡ ok q → q .start + q .size ≤ v .extent

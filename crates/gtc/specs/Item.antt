@@ -12,8 +12,10 @@ use Rattle.reading.specs.Check.{Check, Outcome, passed, failed, short, signedFi
 use Rattle.gtc.specs.declared.entry.Entry.{Entry}
 use Rattle.gtc.specs.declared.item.Shape.{Shape}
 use Rattle.gtc.specs.declared.item.Shape.the-variants.{Text, Array, SnpArray, Scanner, Block}
+use Rattle.gtc.specs.declared.item.Stored.{Stored}
+use Rattle.gtc.specs.declared.item.Stored.the-variants.{Value, Shaped}
 use Rattle.gtc.specs.declared.item.Listing.{Listing}
-use Rattle.gtc.specs.declared.item.Listing.the-variants.{Value, Shaped, Unlisted}
+use Rattle.gtc.specs.declared.item.Listing.the-variants.{Listed, Unlisted}
 use Rattle.gtc.specs.declared.item.ItemData.{ItemData}
 use Rattle.gtc.specs.declared.item.Ended as Ended
 use Rattle.gtc.specs.declared.item.Ended.the-variants as ended
@@ -27,12 +29,12 @@ use Rattle.gtc.specs.Entry.{offsetField, entryWith}
 -- a row of Table 3: an id, and how its data are stored
 pub record Row : Type 0 where
   pub id : ℕ
-  pub listing : Listing
+  pub stored : Stored
 
-abbrev pub row : ℕ → Listing → Row
-row k v = record { id = k; listing = v }
+abbrev pub row : ℕ → Stored → Row
+row k v = record { id = k; stored = v }
 
--- Table 3. At its offset an id has a string (Text), an array with the width of its elements (Array, and SnpArray with one element for each SNP), the scanner data,
+-- Table 3. A value stands in the offset field itself. At its offset an id has a string (Text), an array with the width of its elements (Array, and SnpArray with one element for each SNP), the scanner data,
 -- or a block of so many bytes.
 abbrev pub rows : List Row
 rows =
@@ -71,7 +73,7 @@ rows =
 
 unfoldable pub listingIn : List Row → ℕ → Listing
 listingIn [] k = Unlisted
-listingIn (r ∷ rs) k = pick (eqb k (r .id)) (r .listing) (listingIn rs k)
+listingIn (r ∷ rs) k = pick (eqb k (r .id)) (Listed (r .stored)) (listingIn rs k)
 
 -- what Table 3 says of an id
 unfoldable pub listingOf : ℕ → Listing
@@ -79,8 +81,7 @@ unfolding listingIn
 listingOf k = listingIn rows k
 
 abbrev pub isListed : Listing → Bool
-isListed (Shaped k) = true
-isListed Value = true
+isListed (Listed v) = true
 isListed Unlisted = false
 
 -- the end of the string at place p: one length byte, then that many
@@ -167,11 +168,10 @@ shapedCheck k h n d = do
 abbrev pub valueData : Entry → ItemData
 valueData d = itemData d (d .place + 2) 4 4
 
--- the checks of entry d, whose id is listed so, in the table h of n entries; no call asks this of an unlisted id
-unfoldable pub itemCheck : Listing → List ℕ → ℕ → Entry → Check ItemData
-itemCheck (Shaped k) h n d = shapedCheck k h n d
+-- the checks of entry d, whose data are stored so, in the table h of n entries
+unfoldable pub itemCheck : Stored → List ℕ → ℕ → Entry → Check ItemData
 itemCheck Value h n d = done (valueData d)
-itemCheck Unlisted h n d = done (valueData d)
+itemCheck (Shaped k) h n d = shapedCheck k h n d
 
 -- what each case stands for
 abbrev pub end : Ended.Ended → Outcome ℕ

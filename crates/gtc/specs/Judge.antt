@@ -8,6 +8,9 @@ use Rattle.reading.specs.Number.{le}
 use Rattle.reading.specs.declared.check.Rule.the-variants.{Other}
 use Rattle.reading.specs.Check.{Check, Outcome, passed, failed, short, Answer, ok, refused, done, must, _>>=_, _>>_}
 use Rattle.reading.specs.Entries.{someWith, inOrder}
+use Rattle.gtc.specs.declared.entry.Entry.{Entry}
+use Rattle.gtc.specs.declared.item.Listing.{Listing}
+use Rattle.gtc.specs.declared.item.Listing.the-variants.{Listed, Unlisted}
 use Rattle.gtc.specs.declared.judge.Verdict.{Verdict}
 use Rattle.gtc.specs.declared.judge.Verdict.the-variants.{Whole, Refused}
 use Rattle.gtc.specs.declared.judge.Judged as Judged
@@ -24,16 +27,18 @@ idAmong h k n = someWith (hasId h k) n
 abbrev pub newId : ℕ
 newId = 1
 
--- judging entry i, counted from 0, of n: the end of the item, 0 for an entry whose id is not listed, which is not checked further
+-- judging entry d, which is entry i, counted from 0, of n: the end of its item; an id that is not listed is not checked further, and 0 stands for its end
+unfoldable pub judgeAs : Listing → List ℕ → ℕ → ℕ → Entry → Check ℕ
+judgeAs Unlisted h n i d = done 0
+judgeAs (Listed v) h n i d = do
+  must (idField d) (Other newId (not (idAmong h (d .id) i))) 8
+  q ← itemCheck v h n d
+  done (itemEnd q)
+
 unfoldable pub judgeEntry : List ℕ → ℕ → ℕ → Check ℕ
 judgeEntry h n i =
     let d = entryOf h (entryPlace i) in
-    pick (isListed (listingOf (d .id)))
-    (do
-      must (idField d) (Other newId (not (idAmong h (d .id) i))) 8
-      q ← itemCheck (listingOf (d .id)) h n d
-      done (itemEnd q))
-    (done 0)
+    judgeAs (listingOf (d .id)) h n i d
 
 -- the number of unjudged entries among m entries from entry i on
 unfoldable pub unjudgedAmong : List ℕ → ℕ → ℕ → ℕ

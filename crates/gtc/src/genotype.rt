@@ -2,6 +2,8 @@
 ghost use mathlib.Core.Path.{_≡_};
 ghost use mathlib.Core.List.{List};
 ghost use Prim.Native.Nat.{ℕ, _≤_};
+ghost use lib.Dec.{leb};
+ghost use Rattle.reading.specs.Choice.{pick};
 ghost use Rattle.reading.specs.Check.{answer};
 ghost use Rattle.gtc.specs.declared.genotype.Genotype.the-variants.{Alleles};
 ghost use Rattle.gtc.specs.Genotype.{lettersFrom, meaning, decoding, decoded, ploidy, bAlleles};
@@ -19,27 +21,28 @@ pub enum Decoded {
     Refused(u8),
 }
 
-// The letters of a code from 7 to 45: three to eight of them.
+// 1 for a code from `least` on, else 0: with no branch, so that codes in any order are fast.
+fn reaches(code: u8, least: u8) -> u8
+    ensures { λ r. ⌜ (r ≡ pick (leb least code) 1 0) × (r ≤ 1) ⌝ }
+{
+    if least <= code {
+        return 1;
+    }
+    0
+}
+
+// The letters of a code from 7 to 45: three, and one more from the first code of each length on.
 fn letters_of(code: u8) -> Genotype
     requires { ⌜ (7 ≤ code) × (code ≤ 45) ⌝ }
-    ensures { λ r. ⌜ r ≡ lettersFrom code 3 6 ⌝ }
+    ensures { λ r. ⌜ r ≡ lettersFrom code 3 5 ⌝ }
 {
-    if code <= 10 {
-        return letters(3, code - 7);
-    }
-    if code <= 15 {
-        return letters(4, code - 11);
-    }
-    if code <= 21 {
-        return letters(5, code - 16);
-    }
-    if code <= 28 {
-        return letters(6, code - 22);
-    }
-    if code <= 36 {
-        return letters(7, code - 29);
-    }
-    letters(8, code - 37)
+    let p = 3
+        + reaches(code, 11)
+        + reaches(code, 16)
+        + reaches(code, 22)
+        + reaches(code, 29)
+        + reaches(code, 37);
+    letters(p, code - (p * (p + 1) / 2 + 1))
 }
 
 fn letters(ploidy: u8, b_alleles: u8) -> Genotype

@@ -30,10 +30,15 @@ pub(crate) enum Shape {
     Block(u8),
 }
 
-// What Table 3 says of an id: its value is the offset field itself, or stands at the offset; or it has no row.
-pub(crate) enum Listing {
+// How an id's data are stored: in the offset field itself, or at the offset.
+pub(crate) enum Stored {
     Value,
     Shaped(Shape),
+}
+
+// What Table 3 says of an id: how its data are stored, or nothing.
+pub(crate) enum Listing {
+    Listed(Stored),
     Unlisted,
 }
 
@@ -69,37 +74,37 @@ pub(crate) fn listing_of(id: u16) -> Listing
     ensures { λ r. ⌜ r ≡ listingOf id ⌝ }
 {
     match id {
-        1 => Listing::Value,
-        2 => Listing::Value,
-        3 => Listing::Value,
-        10 => Listing::Shaped(Shape::Text),
-        11 => Listing::Shaped(Shape::Text),
-        12 => Listing::Shaped(Shape::Text),
-        100 => Listing::Shaped(Shape::Text),
-        101 => Listing::Shaped(Shape::Text),
-        200 => Listing::Shaped(Shape::Text),
-        201 => Listing::Shaped(Shape::Text),
-        300 => Listing::Shaped(Shape::Text),
-        400 => Listing::Shaped(Shape::Array(52)),
-        500 => Listing::Shaped(Shape::Array(2)),
-        501 => Listing::Shaped(Shape::Array(2)),
-        1000 => Listing::Shaped(Shape::SnpArray(2)),
-        1001 => Listing::Shaped(Shape::SnpArray(2)),
-        1002 => Listing::Shaped(Shape::SnpArray(1)),
-        1003 => Listing::Shaped(Shape::SnpArray(2)),
-        1004 => Listing::Shaped(Shape::SnpArray(4)),
-        1005 => Listing::Shaped(Shape::Scanner),
-        1006 => Listing::Shaped(Shape::Block(4)),
-        1007 => Listing::Shaped(Shape::Block(1)),
-        1008 => Listing::Shaped(Shape::Block(4)),
-        1009 => Listing::Shaped(Shape::Block(4)),
-        1010 => Listing::Value,
-        1011 => Listing::Shaped(Shape::Block(16)),
-        1012 => Listing::Shaped(Shape::SnpArray(4)),
-        1013 => Listing::Shaped(Shape::SnpArray(4)),
-        1014 => Listing::Shaped(Shape::Block(6)),
-        1015 => Listing::Shaped(Shape::Block(6)),
-        1016 => Listing::Shaped(Shape::Text),
+        1 => Listing::Listed(Stored::Value),
+        2 => Listing::Listed(Stored::Value),
+        3 => Listing::Listed(Stored::Value),
+        10 => Listing::Listed(Stored::Shaped(Shape::Text)),
+        11 => Listing::Listed(Stored::Shaped(Shape::Text)),
+        12 => Listing::Listed(Stored::Shaped(Shape::Text)),
+        100 => Listing::Listed(Stored::Shaped(Shape::Text)),
+        101 => Listing::Listed(Stored::Shaped(Shape::Text)),
+        200 => Listing::Listed(Stored::Shaped(Shape::Text)),
+        201 => Listing::Listed(Stored::Shaped(Shape::Text)),
+        300 => Listing::Listed(Stored::Shaped(Shape::Text)),
+        400 => Listing::Listed(Stored::Shaped(Shape::Array(52))),
+        500 => Listing::Listed(Stored::Shaped(Shape::Array(2))),
+        501 => Listing::Listed(Stored::Shaped(Shape::Array(2))),
+        1000 => Listing::Listed(Stored::Shaped(Shape::SnpArray(2))),
+        1001 => Listing::Listed(Stored::Shaped(Shape::SnpArray(2))),
+        1002 => Listing::Listed(Stored::Shaped(Shape::SnpArray(1))),
+        1003 => Listing::Listed(Stored::Shaped(Shape::SnpArray(2))),
+        1004 => Listing::Listed(Stored::Shaped(Shape::SnpArray(4))),
+        1005 => Listing::Listed(Stored::Shaped(Shape::Scanner)),
+        1006 => Listing::Listed(Stored::Shaped(Shape::Block(4))),
+        1007 => Listing::Listed(Stored::Shaped(Shape::Block(1))),
+        1008 => Listing::Listed(Stored::Shaped(Shape::Block(4))),
+        1009 => Listing::Listed(Stored::Shaped(Shape::Block(4))),
+        1010 => Listing::Listed(Stored::Value),
+        1011 => Listing::Listed(Stored::Shaped(Shape::Block(16))),
+        1012 => Listing::Listed(Stored::Shaped(Shape::SnpArray(4))),
+        1013 => Listing::Listed(Stored::Shaped(Shape::SnpArray(4))),
+        1014 => Listing::Listed(Stored::Shaped(Shape::Block(6))),
+        1015 => Listing::Listed(Stored::Shaped(Shape::Block(6))),
+        1016 => Listing::Listed(Stored::Shaped(Shape::Text)),
         _ => Listing::Unlisted,
     }
 }
@@ -108,8 +113,7 @@ pub(crate) fn is_listed(id: u16) -> bool
     ensures { λ r. ⌜ r ≡ isListed (listingOf id) ⌝ }
 {
     match listing_of(id) {
-        Listing::Value => true,
-        Listing::Shaped(_) => true,
+        Listing::Listed(_) => true,
         Listing::Unlisted => false,
     }
 }
@@ -371,20 +375,18 @@ fn shaped_tests(s: &[u8], h: &[u8], n: usize, k: Shape, d: Entry) -> Item
     shape_tests(s, h, n, k, d)
 }
 
-// The checks of entry d in the table h of n entries.
-pub(crate) fn item_tests(s: &[u8], h: &[u8], n: usize, d: Entry) -> Item
+// The checks of entry d, whose data are stored so, in the table h of n entries.
+pub(crate) fn item_tests(s: &[u8], h: &[u8], n: usize, v: Stored, d: Entry) -> Item
     requires { ⌜ (tableEnd n ≤ length (now h)) × (d .place < 0x8000000000000000) ⌝ }
-    ensures { λ r. ⌜ item r ≡ run (itemCheck (listingOf (d .id)) (now (h .entry)) n d) (now (s .entry)) ⌝ }
+    ensures { λ r. ⌜ item r ≡ run (itemCheck v (now (h .entry)) n d) (now (s .entry)) ⌝ }
 {
-    let value = ItemData {
-        id: d.id,
-        start: d.place + 2,
-        size: 4,
-        count: 4,
-    };
-    match listing_of(d.id) {
-        Listing::Shaped(k) => shaped_tests(s, h, n, k, d),
-        Listing::Value => Item::At(value),
-        Listing::Unlisted => Item::At(value),
+    match v {
+        Stored::Value => Item::At(ItemData {
+            id: d.id,
+            start: d.place + 2,
+            size: 4,
+            count: 4,
+        }),
+        Stored::Shaped(k) => shaped_tests(s, h, n, k, d),
     }
 }

@@ -1,9 +1,13 @@
 // Judging.
+use crate::entry::Entry;
 use crate::entry::entry_at;
 use crate::entry::first_id;
 use crate::item::Item;
+use crate::item::Listing;
+use crate::item::Stored;
 use crate::item::is_listed;
 use crate::item::item_tests;
+use crate::item::listing_of;
 use crate::table::TableRead;
 use crate::table::read_table;
 use reading::check::Explanation;
@@ -13,7 +17,7 @@ use reading::check::Test;
 use reading::entries::larger;
 use reading::number::le16;
 ghost use mathlib.Core.Path.{_≡_};
-ghost use Prim.Native.Nat.{_+_, _≤_};
+ghost use Prim.Native.Nat.{_+_, _≤_, _<_};
 ghost use lib.ListN.{length};
 ghost use Rattle.reading.specs.Choice.{pick};
 ghost use Rattle.reading.specs.Number.{le};
@@ -22,8 +26,9 @@ ghost use Rattle.reading.specs.Entries.{inOrder};
 ghost use Rattle.reading.specs.Explain.{explained};
 ghost use Rattle.gtc.specs.Table.{tableEnd};
 ghost use Rattle.gtc.specs.Entry.{entryPlace};
+ghost use Rattle.gtc.specs.declared.item.Listing.the-variants.{Listed};
 ghost use Rattle.gtc.specs.Item.{listingOf, isListed};
-ghost use Rattle.gtc.specs.Judge.{idAmong, judgeEntry, unjudgedAmong, judgeTable, judging, judgedEntry, verdict};
+ghost use Rattle.gtc.specs.Judge.{idAmong, judgeAs, judgeEntry, unjudgedAmong, judgeTable, judging, judgedEntry, verdict};
 
 // What judging finds: the file is whole, with its extent and the number of entries that are not judged; or the refusal and its entry.
 pub enum Verdict {
@@ -47,33 +52,39 @@ fn id_among(h: &[u8], id: u16, n: usize) -> bool
     first_id(h, id, 0, n) < n
 }
 
+// Judging entry d, which is entry i and has an id that is listed, its data stored so.
+fn judge_listed(s: &[u8], h: &[u8], n: usize, i: usize, v: Stored, d: Entry) -> Judged
+    requires { ⌜ (tableEnd n ≤ length (now h)) × (i + 1 ≤ n) × (d .place < 0x8000000000000000) ⌝ }
+    ensures { λ r. ⌜ judgedEntry r ≡ run (judgeAs (Listed v) (now (h .entry)) n i d) (now (s .entry)) ⌝ }
+{
+    if id_among(h, d.id, i) {
+        let field = Field {
+            place: d.place,
+            width: 2,
+            sign: false,
+            value: d.id as u64,
+        };
+        return Judged::Bad(Test {
+            field,
+            rule: Rule::Other(1, false),
+            number: 8,
+        });
+    }
+    match item_tests(s, h, n, v, d) {
+        Item::Bad(t) => Judged::Bad(t),
+        Item::Short(p, m) => Judged::Short(p, m),
+        Item::At(q) => Judged::End(q.start + q.size),
+    }
+}
+
 fn judge_entry(s: &[u8], h: &[u8], n: usize, i: usize) -> Judged
     requires { ⌜ (tableEnd n ≤ length (now h)) × (i + 1 ≤ n) ⌝ }
     ensures { λ r. ⌜ judgedEntry r ≡ run (judgeEntry (now (h .entry)) n i) (now (s .entry)) ⌝ }
 {
     let d = entry_at(h, i);
-    let listed = is_listed(d.id);
-    if listed {
-        if id_among(h, d.id, i) {
-            let field = Field {
-                place: d.place,
-                width: 2,
-                sign: false,
-                value: d.id as u64,
-            };
-            return Judged::Bad(Test {
-                field,
-                rule: Rule::Other(1, false),
-                number: 8,
-            });
-        }
-        match item_tests(s, h, n, d) {
-            Item::Bad(t) => Judged::Bad(t),
-            Item::Short(p, m) => Judged::Short(p, m),
-            Item::At(q) => Judged::End(q.start + q.size),
-        }
-    } else {
-        Judged::End(0)
+    match listing_of(d.id) {
+        Listing::Listed(v) => judge_listed(s, h, n, i, v, d),
+        Listing::Unlisted => Judged::End(0),
     }
 }
 

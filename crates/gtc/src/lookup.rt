@@ -3,8 +3,10 @@ use crate::entry::EntryFound;
 use crate::entry::entry_with;
 use crate::item::Item;
 use crate::item::ItemData;
-use crate::item::is_listed;
+use crate::item::Listing;
+use crate::item::Stored;
 use crate::item::item_tests;
+use crate::item::listing_of;
 use crate::table::TableRead;
 use crate::table::read_table;
 use reading::part::part;
@@ -22,13 +24,14 @@ pub enum Found {
     Refused(u8),
 }
 
-fn lookup_listed(s: &[u8], h: &[u8], n: usize, id: u16) -> Found
+// The item with a listed id, whose data are stored so.
+fn lookup_listed(s: &[u8], h: &[u8], n: usize, id: u16, v: Stored) -> Found
     requires { ⌜ tableEnd n ≤ length (now h) ⌝ }
-    ensures { λ r. ⌜ found r ≡ answer (lookupListed (now (h .entry)) n id) (now (s .entry)) ⌝ }
+    ensures { λ r. ⌜ found r ≡ answer (lookupListed v (now (h .entry)) n id) (now (s .entry)) ⌝ }
 {
     match entry_with(h, n, id) {
         EntryFound::Bad(t) => Found::Refused(t.number),
-        EntryFound::At(d) => match item_tests(s, h, n, d) {
+        EntryFound::At(d) => match item_tests(s, h, n, v, d) {
             Item::Bad(t) => Found::Refused(t.number),
             Item::Short(_, _) => Found::Refused(1),
             Item::At(q) => Found::Data(q),
@@ -40,11 +43,10 @@ fn lookup_in(s: &[u8], h: &[u8], n: usize, id: u16) -> Found
     requires { ⌜ tableEnd n ≤ length (now h) ⌝ }
     ensures { λ r. ⌜ found r ≡ answer (lookupIn (now (h .entry)) n id) (now (s .entry)) ⌝ }
 {
-    let listed = is_listed(id);
-    if listed {
-        return lookup_listed(s, h, n, id);
+    match listing_of(id) {
+        Listing::Listed(v) => lookup_listed(s, h, n, id, v),
+        Listing::Unlisted => Found::Refused(10),
     }
-    Found::Refused(10)
 }
 
 // The item with this id.

@@ -18,8 +18,9 @@ use Rattle.reading.proofs.Passed.{bind-ok, done-ok}
 use Rattle.reading.proofs.Reach.{reach-none}
 use Rattle.reading.proofs.Width.{byte-le, le-taken}
 use Rattle.reading.proofs.Match.{InNone}
-use Rattle.gtc.specs.declared.item.Listing.{Listing}
-use Rattle.gtc.specs.declared.item.Listing.the-variants.{Value, Shaped, Unlisted}
+use Rattle.gtc.specs.declared.item.Stored.{Stored}
+use Rattle.gtc.specs.declared.item.Stored.the-variants.{Value, Shaped}
+use Rattle.gtc.specs.declared.item.Listing.the-variants.{Listed, Unlisted}
 use Rattle.gtc.specs.declared.item.Shape.{Shape}
 use Rattle.gtc.specs.declared.item.Shape.the-variants.{Text, Array, SnpArray, Scanner, Block}
 use Rattle.gtc.specs.declared.item.ItemData.{ItemData}
@@ -38,7 +39,7 @@ unfolding listingIn
 no-row [] arms k h = (h, refl)
 no-row (r ∷ rs) arms k h = go (no-row rs ((r .id ∷ []) ∷ arms) k h) (eqb k (r .id)) refl
   where
-    go : InNone ((r .id ∷ []) ∷ arms) k × (Unlisted ≡ listingIn rs k) → (b : Bool) → eqb k (r .id) ≡ b → InNone arms k × (Unlisted ≡ pick b (r .listing) (listingIn rs k))
+    go : InNone ((r .id ∷ []) ∷ arms) k × (Unlisted ≡ listingIn rs k) → (b : Bool) → eqb k (r .id) ≡ b → InNone arms k × (Unlisted ≡ pick b (Listed (r .stored)) (listingIn rs k))
     go u true q = absurd (u .0 .1 (eqb-true k (r .id) q))
     go u false q = (u .0 .0, u .1)
 
@@ -146,16 +147,15 @@ shape-end (Block m) h n d s q w =
     rw (← done-ok _ q s (a .2)) (simp (a .3, reach-need, reach-done) (omega arith))
 
 -- a value stands in its entry
-pub item-end : (l : Listing) (h : List ℕ) (n : ℕ) (d : Entry) (s : List ℕ) (q : ItemData) → answer (itemCheck l h n d) s ≡ ok q → max (d .place + 6) (reach (itemCheck l h n d) s) ≡ max (d .place + 6) (itemEnd q)
+pub item-end : (v : Stored) (h : List ℕ) (n : ℕ) (d : Entry) (s : List ℕ) (q : ItemData) → answer (itemCheck v h n d) s ≡ ok q → max (d .place + 6) (reach (itemCheck v h n d) s) ≡ max (d .place + 6) (itemEnd q)
 unfolding itemCheck shapedCheck
 item-end (Shaped k) h n d s q w =
     let a = bind-ok _ _ s q w in
     simp (a .3, reach-must, shape-end k h n d s q (a .2)) (omega arith)
 item-end Value h n d s q w = rw (← done-ok _ q s w) (simp reach-done (omega arith))
-item-end Unlisted h n d s q w = rw (← done-ok _ q s w) (simp reach-done (omega arith))
 
-pub item-within : (l : Listing) (h : List ℕ) (n : ℕ) (d : Entry) (s : List ℕ) (q : ItemData) → answer (itemCheck l h n d) s ≡ ok q → itemEnd q ≤ max (d .place + 6) (length s)
-item-within l h n d s q w =
-    let e = item-end l h n d s q w in
-    let r = reach-within (itemCheck l h n d) s q (answer-ok (itemCheck l h n d) s q w) in
+pub item-within : (v : Stored) (h : List ℕ) (n : ℕ) (d : Entry) (s : List ℕ) (q : ItemData) → answer (itemCheck v h n d) s ≡ ok q → itemEnd q ≤ max (d .place + 6) (length s)
+item-within v h n d s q w =
+    let e = item-end v h n d s q w in
+    let r = reach-within (itemCheck v h n d) s q (answer-ok (itemCheck v h n d) s q w) in
     omega arith

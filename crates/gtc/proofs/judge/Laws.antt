@@ -18,41 +18,45 @@ use Rattle.reading.proofs.Explained.{told-answer}
 use Rattle.reading.proofs.Steps.{run-bind, run-must, run-done, answer-done}
 use Rattle.reading.proofs.Passed.{bind-refused, bind-answered}
 use Rattle.gtc.specs.declared.entry.Entry.{Entry}
+use Rattle.gtc.specs.declared.item.Stored.{Stored}
+use Rattle.gtc.specs.declared.item.Listing.{Listing}
+use Rattle.gtc.specs.declared.item.Listing.the-variants.{Listed}
 use Rattle.gtc.specs.declared.item.Item.{Item}
 use Rattle.gtc.specs.declared.item.Item.the-variants as Item
 use Rattle.gtc.specs.declared.item.ItemData.{ItemData}
 use Rattle.gtc.specs.Table.{tableEnd}
 use Rattle.gtc.specs.Entry.{entryPlace, entryOf, idField}
 use Rattle.gtc.specs.Item.{listingOf, isListed, itemCheck, itemEnd, item}
-use Rattle.gtc.specs.Judge.{idAmong, newId, judgeEntry, unjudgedAmong, judgeTable}
+use Rattle.gtc.specs.Judge.{idAmong, newId, judgeAs, judgeEntry, unjudgedAmong, judgeTable}
 
 -- one entry more is counted
 pub unjudged-on : (h : List ℕ) (u v i m : ℕ) → v ≡ pick (isListed (listingOf (le 2 h (entryPlace i)))) 0 1 → u + unjudgedAmong h (suc m) i ≡ u + v + unjudgedAmong h m (i + 1)
 unfolding unjudgedAmong
 unjudged-on h u v i m q = rw (← q) (simp add-assoc)
 
-module _ (s h : List ℕ) (n i : ℕ) (d : Entry) (e : d ≡ entryOf h (entryPlace i)) (l : Bool) (ql : l ≡ isListed (listingOf (d .id))) where
-  pub entry-unlisted : l ≡ false → passed 0 ≡ run (judgeEntry h n i) s
-  unfolding judgeEntry
-  entry-unlisted f = simp (← e, ← ql, f, run-done)
+-- a listed entry
+module _ (s h : List ℕ) (n i : ℕ) (v : Stored) (d : Entry) (t : Bool) (qt : t ≡ idAmong h (d .id) i) where
+  pub listed-twice : t ≡ true → failed (record { field = idField d; rule = Other newId false; number = 8 }) 0 ≡ run (judgeAs (Listed v) h n i d) s
+  unfolding judgeAs holds
+  listed-twice g = simp (run-bind, run-must, ← qt, g)
 
-  module _ (f : l ≡ true) (t : Bool) (qt : t ≡ idAmong h (d .id) i) where
-    pub entry-twice : t ≡ true → failed (record { field = idField d; rule = Other newId false; number = 8 }) 0 ≡ run (judgeEntry h n i) s
-    unfolding judgeEntry holds
-    entry-twice g = simp (← e, ← ql, f, run-bind, run-must, ← qt, g)
+  module _ (g : t ≡ false) (r : Item) (qr : item r ≡ run (itemCheck v h n d) s) where
+    pub listed-bad : (w : Test) → r ≡ Item.Bad w → failed w 0 ≡ run (judgeAs (Listed v) h n i d) s
+    unfolding judgeAs holds
+    listed-bad w f = simp (run-bind, run-must, ← qt, g, ← qr, f)
 
-    module _ (g : t ≡ false) (r : Item) (qr : item r ≡ run (itemCheck (listingOf (d .id)) h n d) s) where
-      pub entry-bad : (w : Test) → r ≡ Item.Bad w → failed w 0 ≡ run (judgeEntry h n i) s
-      unfolding judgeEntry holds
-      entry-bad w v = simp (← e, ← ql, f, run-bind, run-must, ← qt, g, ← qr, v)
+    pub listed-short : (p m : ℕ) → r ≡ Item.Short p m → short (record { start = p; end = m }) 0 ≡ run (judgeAs (Listed v) h n i d) s
+    unfolding judgeAs holds
+    listed-short p m f = simp (run-bind, run-must, ← qt, g, ← qr, f)
 
-      pub entry-short : (p m : ℕ) → r ≡ Item.Short p m → short (record { start = p; end = m }) 0 ≡ run (judgeEntry h n i) s
-      unfolding judgeEntry holds
-      entry-short p m v = simp (← e, ← ql, f, run-bind, run-must, ← qt, g, ← qr, v)
+    pub listed-end : (q : ItemData) → r ≡ Item.At q → passed (itemEnd q) ≡ run (judgeAs (Listed v) h n i d) s
+    unfolding judgeAs holds
+    listed-end q f = simp (run-bind, run-must, ← qt, g, ← qr, f, run-done)
 
-      pub entry-end : (q : ItemData) → r ≡ Item.At q → passed (itemEnd q) ≡ run (judgeEntry h n i) s
-      unfolding judgeEntry holds
-      entry-end q v = simp (← e, ← ql, f, run-bind, run-must, ← qt, g, ← qr, v, run-done)
+-- an entry is judged as its id is listed
+pub entry-as : (s h : List ℕ) (n i : ℕ) (d : Entry) → d ≡ entryOf h (entryPlace i) → (l : Listing) → l ≡ listingOf (d .id) → run (judgeAs l h n i d) s ≡ run (judgeEntry h n i) s
+unfolding judgeEntry
+entry-as s h n i d e l q = rw (q, e)
 
 -- judging a table, from the explanation of its entries
 module _ (s h : List ℕ) (n : ℕ) (r : Explanation) (q : r ≡ explained (run (inOrder (judgeEntry h n) n 0 (tableEnd n)) s)) where

@@ -1,32 +1,43 @@
 -- Lookup, from the answers of its parts.
 -- Assumes nothing.
 use Prim.Native.Nat.{ℕ, _+_, _≤_}
-use mathlib.Core.Path.{_≡_, _∙_, ap}
+use mathlib.Core.Path.{_≡_, sym, _∙_, ap}
 use mathlib.Core.List.{List}
-use mathlib.Core.Bool.{Bool, true, false}
 use native.Mathlib.Omega.{arith}
 use lib.ListN.{length}
-use Rattle.reading.specs.Check.{ok, refused, answer, holds}
-use Rattle.reading.proofs.Steps.{answer-bind, answer-must}
-use Rattle.reading.proofs.Passed.{bind-ok}
+use Rattle.reading.specs.Check.{ok, refused, answer, holds, done}
+use Rattle.reading.proofs.Steps.{answer-bind, answer-must, answer-done}
+use Rattle.reading.proofs.Passed.{bind-ok, bind-answered, done-ok, not-ok}
 use Rattle.gtc.specs.declared.entry.Entry.{Entry}
+use Rattle.gtc.specs.declared.item.Stored.{Stored}
+use Rattle.gtc.specs.declared.item.Listing.{Listing}
+use Rattle.gtc.specs.declared.item.Listing.the-variants.{Listed, Unlisted}
 use Rattle.gtc.specs.declared.item.ItemData.{ItemData}
 use Rattle.gtc.specs.Table.{tableEnd, table}
 use Rattle.gtc.specs.Entry.{entryWith}
-use Rattle.gtc.specs.Item.{listingOf, isListed}
-use Rattle.gtc.specs.Lookup.{lookupListed, lookupIn, lookingUp}
+use Rattle.gtc.specs.Item.{listingOf}
+use Rattle.gtc.specs.Lookup.{storedAs, lookupListed, lookupIn, lookingUp}
 use Rattle.gtc.proofs.table.Laws.{table-found}
 use Rattle.gtc.proofs.entry.Laws.{with-found, entry-place}
 use Rattle.gtc.proofs.item.Laws.{item-within}
 
-module _ (s h : List ℕ) (n k : ℕ) (b : Bool) (q : b ≡ isListed (listingOf k)) where
-  pub in-listed : b ≡ true → answer (lookupListed h n k) s ≡ answer (lookupIn h n k) s
-  unfolding lookupIn holds
-  in-listed t = simp (answer-bind, answer-must, ← q, t)
+-- a listed id goes on to its entry, an unlisted one is 10
+module _ (s h : List ℕ) (n k : ℕ) where
+  pub in-listed : (v : Stored) → listingOf k ≡ Listed v → answer (lookupListed v h n k) s ≡ answer (lookupIn h n k) s
+  unfolding lookupIn storedAs
+  in-listed v e = rw e (bind-answered (done v) _ s v (answer-done v s))
 
-  pub in-unlisted : b ≡ false → refused 10 0 ≡ answer (lookupIn h n k) s
-  unfolding lookupIn holds
-  in-unlisted t = simp (answer-bind, answer-must, ← q, t)
+  pub in-unlisted : listingOf k ≡ Unlisted → refused 10 0 ≡ answer (lookupIn h n k) s
+  unfolding lookupIn storedAs holds
+  in-unlisted e = rw e (simp (answer-bind, answer-must))
+
+-- how an id that is found is stored
+pub stored-ok : (l : Listing) (s : List ℕ) (v : Stored) → answer (storedAs l) s ≡ ok v → l ≡ Listed v
+unfolding storedAs holds
+stored-ok (Listed u) s v w = ap Listed (done-ok u v s w)
+stored-ok Unlisted s v w =
+    let z : answer (storedAs Unlisted) s ≡ refused 10 0 = simp (answer-bind, answer-must) in
+    absurd (not-ok (sym z ∙ w))
 
 -- the entry that is found ends within the table
 pub found-place : (l h : List ℕ) (n k : ℕ) (d : Entry) → answer (entryWith h n k) l ≡ ok d → d .place + 6 ≤ tableEnd n
@@ -40,9 +51,9 @@ pub lookup-within : (k : ℕ) (s : List ℕ) (q : ItemData) → answer (lookingU
 unfolding lookingUp lookupIn lookupListed
 lookup-within k s q w =
     let t = bind-ok table _ s q w in
-    let a = bind-ok _ _ s q (t .2) in
+    let a = bind-ok (storedAs (listingOf k)) _ s q (t .2) in
     let b = bind-ok _ _ s q (a .2) in
     let f = table-found s (t .0) (t .1) in
     let p = found-place s (t .0 .upTo) (t .0 .count) k (b .0) (b .1) in
-    let i = item-within (listingOf (b .0 .id)) (t .0 .upTo) (t .0 .count) (b .0) s q (b .2) in
+    let i = item-within (a .0) (t .0 .upTo) (t .0 .count) (b .0) s q (b .2) in
     omega arith

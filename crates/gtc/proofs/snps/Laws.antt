@@ -4,17 +4,16 @@ use Prim.Native.Nat.{ℕ, zero, suc, _+_, _-_, _*_, _/_, _≤_, _<_}
 use mathlib.Core.Path.{_≡_, refl, sym, _∙_, ap, subst}
 use mathlib.Core.Bool.{true, false}
 use mathlib.Core.List.{List, [], _∷_, _++_}
-use native.Mathlib.Nat.{add-zero}
 use native.Mathlib.Omega.{arith}
-use lib.ListN.{length, drop, set, length-append}
-use lib.Seq.{sets, length-sets}
+use lib.ListN.{length, drop, length-append}
+use lib.Seq.{sets}
 use borrow.Author.Tests.{le-leb, lt-leb}
 use Rattle.reading.specs.Choice.{isNumberOf}
 use Rattle.reading.specs.Check.{Answer, ok, refused, answer, mapAnswer, holds}
 use Rattle.reading.specs.Lent.{filled}
-use Rattle.reading.specs.Bulk.{leftFrom, fitting, recordOf, records, placed}
+use Rattle.reading.specs.Bulk.{leftFrom, fitting, recordOf, records}
 use Rattle.reading.proofs.Steps.{answer-bind, answer-must, answer-done}
-use Rattle.reading.proofs.Fill.{Filling, fill-start, fill-many}
+use Rattle.reading.proofs.Fill.{Filling, fill-start, fill-record}
 use Rattle.gtc.specs.declared.snp.SnpArrays.{SnpArrays}
 use Rattle.gtc.specs.declared.snp.Snp.{Snp}
 use Rattle.gtc.specs.Snp.{SnpBytes, Present, snpAt}
@@ -25,20 +24,8 @@ use Rattle.gtc.proofs.snp.Laws.{bytesIn, bytes-present}
 abbrev pub bytes : List ℕ → List ℕ → List ℕ → List ℕ → List ℕ → SnpBytes
 bytes g b f x y = record { genotypes = g; baseCalls = b; scores = f; x = x; y = y }
 
-sets-append : (xs ys l : List ℕ) (i : ℕ) → sets (sets l i xs) (i + length xs) ys ≡ sets l i (xs ++ ys)
-sets-append [] ys l i = ap (λ (k : ℕ). sets l k ys) (add-zero i)
-sets-append (x ∷ xs) ys l i =
-    let e : i + suc (length xs) ≡ suc i + length xs = omega arith in
-    ap (λ (k : ℕ). sets (sets (set l i x) (suc i) xs) k ys) e ∙ sets-append xs ys (set l i x) (suc i)
-
--- the numbers ys behind the numbers xs that stand from place p on
-pub put-behind : (o u v : List ℕ) (p : ℕ) (xs ys : List ℕ) → u ≡ sets o p xs → v ≡ placed u (p + length xs) ys → p + length xs + length ys ≤ length o → v ≡ sets o p (xs ++ ys)
-put-behind o u v p xs ys e f h =
-    let l : length u ≡ length o = ap length e ∙ length-sets o p xs in
-    f ∙ rw (le-leb (p + length xs + length ys) (length u) (omega arith)) (ap (λ (x : List ℕ). sets x (p + length xs) ys) e ∙ sets-append xs ys o p)
-
 -- a record is nine numbers long
-pub length-record : (r : Answer Snp) → length (recordOf 9 snpNumbers r) ≡ 9
+length-record : (r : Answer Snp) → length (recordOf 9 snpNumbers r) ≡ 9
 length-record (ok r) = refl
 length-record (refused n e) = refl
 
@@ -64,13 +51,11 @@ module _ (b : SnpBytes) where
       let e : 9 * n / 9 ≡ n = omega arith in
       subst (λ (i : ℕ). Filling (ahead b j) (9 * n) 0 o o (records 9 snpNumbers (snpsAt b i j) ++ drop (9 * n) o)) e (fill-start (ahead b j) (9 * n) o h)
 
-  pub fill-record : (k n i : ℕ) (o out whole : List ℕ) → Filling (ahead b k) n i o out whole → i + 9 ≤ n → Filling (ahead b (k + 1)) n (i + 9) o (sets out i (recordOf 9 snpNumbers (answer (snpAt b k) []))) whole
+  pub fill-snp : (k n i : ℕ) (o out whole : List ℕ) → Filling (ahead b k) n i o out whole → i + 9 ≤ n → Filling (ahead b (k + 1)) n (i + 9) o (sets out i (recordOf 9 snpNumbers (answer (snpAt b k) []))) whole
   unfolding snpsAt
-  fill-record k n i o out whole f h =
-      let v = recordOf 9 snpNumbers (answer (snpAt b k) []) in
-      let e : length v ≡ 9 = length-record (answer (snpAt b k) []) in
-      subst (λ (l : ℕ). Filling (ahead b (k + 1)) n (i + l) o (sets out i v) whole) e
-      (fill-many (ahead b k) n i o out whole f v (omega arith) (ahead b (k + 1)) (λ m. let q : (length v + m) / 9 ≡ suc (m / 9) = omega arith in rw q))
+  fill-snp k n i o out whole f h =
+      let r = answer (snpAt b k) [] in
+      fill-record (ahead b k) n i o out whole f (recordOf 9 snpNumbers r) 9 (length-record r) h (ahead b (k + 1)) (λ m. let q : (9 + m) / 9 ≡ suc (m / 9) = omega arith in rw q)
 
 -- there is no such SNP
 pub of-none : (s : List ℕ) (a : SnpArrays) (first : ℕ) → isNumberOf first (a .genotypes .count) ≡ false → (room : ℕ) → answer (snpsOf a first room) s ≡ refused 12 0

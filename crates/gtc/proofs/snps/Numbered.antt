@@ -1,6 +1,6 @@
 -- Item j of the bulk call is what is answered for SNP first + j, and there are as many as are left and as fit.
 -- Assumes nothing.
-use Prim.Native.Nat.{ℕ, zero, suc, _+_, _-_, _*_, _/_, _≤_, _<_}
+use Prim.Native.Nat.{ℕ, zero, suc, _+_, _-_, _*_, _≤_, _<_}
 use mathlib.Core.Path.{_≡_, refl, sym, _∙_, ap, subst}
 use mathlib.Core.Logic.{_⊎_, inl, inr}
 use mathlib.Core.List.{List, [], _∷_}
@@ -9,35 +9,28 @@ use native.Mathlib.Omega.{arith}
 use lib.ListN.{length, drop, length-drop}
 use lib.Dec.{leb}
 use borrow.Author.Tests.{le-leb, lt-leb, leb-true, leb-false}
-use Rattle.reading.specs.Choice.{pick, isNumberOf}
-use Rattle.reading.specs.Number.{le}
-use Rattle.reading.specs.Check.{Answer, ok, refused, answer, holds}
-use Rattle.reading.specs.Bulk.{leftFrom, fitting}
+use Rattle.reading.specs.Choice.{isNumberOf}
+use Rattle.reading.specs.Check.{Check, Answer, ok, refused, answer, holds, done, provided, _>>=_, _>>_}
+use Rattle.reading.specs.Bulk.{leftFrom, fitting, oneFits, answersFrom, OfItem}
 use Rattle.reading.proofs.Steps.{answer-bind, answer-must}
-use Rattle.reading.proofs.Passed.{bind-ok, done-ok, must-ok}
+use Rattle.reading.proofs.Passed.{bind-ok, done-ok, must-ok, bind-stops, must-stops}
+use Rattle.reading.proofs.Refusing.{none, refusing, refusing-bind, refusing-must}
+use Rattle.reading.proofs.bulk.Laws.{answers-are, of-item}
 use Rattle.reading.proofs.Tests.{number-within}
 use Rattle.gtc.specs.declared.snp.SnpArrays.{SnpArrays}
 use Rattle.gtc.specs.declared.snp.Snp.{Snp}
 use Rattle.gtc.specs.Genotype.{decoding}
-use Rattle.gtc.specs.Snp.{snpArrays, SnpBytes, snpBytes, isBaseCall, snpAt, snpOf, snpReading}
+use Rattle.gtc.specs.Snp.{snpArrays, SnpBytes, snpBytes, snpAt, snpOf, snpReading}
 use Rattle.gtc.specs.Snps.{snpsAt, snpsOf, snpsReading}
+use Rattle.gtc.proofs.Refusing.{record-refusing, bytes-refusing, arrays-refusing}
 use Rattle.gtc.proofs.snps.Laws.{length-snps}
 
--- a SNP whose bytes are there is answered, or refused with 11; no file is looked at
-abbrev Own : Answer Snp → Type 0
-Own r = ((v : Snp) × (r ≡ ok v)) ⊎ (r ≡ refused 11 0)
-
 module _ (b : SnpBytes) where
-  snp-own : (k : ℕ) (s : List ℕ) → Own (answer (snpAt b k) s)
-  unfolding snpAt decoding answer
-  snp-own k s = go (leb (le 1 (b .genotypes) k) 45) (isBaseCall (le 1 (b .baseCalls) (2 * k))) (isBaseCall (le 1 (b .baseCalls) (2 * k + 1))) _
-    where
-      go : (f g h : Bool) (v : Snp) → Own (pick f (pick g (pick h (ok v) (refused 11 0)) (refused 11 0)) (refused 11 0))
-      go true true true v = inl (v, refl)
-      go true true false v = inr refl
-      go true false h v = inr refl
-      go false g h v = inr refl
+  -- a SNP whose bytes are there is answered, or refused with 11
+  snp-own : (k : ℕ) (s : List ℕ) → OfItem (answer (snpAt b k) s)
+  snp-own k s = of-item _ (refusing (λ n e. (n ≡ 11) × (e ≡ 0)) (snpAt b k) (record-refusing _ (refl, refl) b k) s)
 
+  -- no file is looked at
   snp-any : (k : ℕ) (s l : List ℕ) → answer (snpAt b k) s ≡ answer (snpAt b k) l
   unfolding snpAt decoding answer
   snp-any k s l = refl
@@ -66,55 +59,115 @@ module _ (s : List ℕ) (a : SnpArrays) (h : answer snpArrays s ≡ ok a) (i : �
   unfolding snpReading snpOf holds
   snp-none f = simp (answer-bind, answer-must, h, f)
 
--- what the bulk call has answered
-pub record Numbered (s : List ℕ) (first room : ℕ) (v : List (Answer Snp)) : Type 0 where
-  pub some : 1 ≤ length v
-  pub fits : 9 * length v ≤ room
-  -- item j, from 0, is what is answered for SNP first + j, which is a record or refused with 11
-  pub each : (j : ℕ) (r : Answer Snp) (l : List (Answer Snp)) → drop j v ≡ r ∷ l → r ≡ answer (snpReading (first + j)) s
-  pub own : (j : ℕ) (r : Answer Snp) (l : List (Answer Snp)) → drop j v ≡ r ∷ l → Own r
-  -- no more fit, or no more are left
-  pub all : (room < 9 * suc (length v)) ⊎ (answer (snpReading (first + length v)) s ≡ refused 12 0)
+-- what has passed where the bulk call answers
+record Passed (s : List ℕ) (first room : ℕ) (v : List (Answer Snp)) : Type 0 where
+  arrays : SnpArrays
+  arrays-ok : answer snpArrays s ≡ ok arrays
+  low : 1 ≤ first
+  high : first ≤ arrays .genotypes .count
+  enough : 9 ≤ room
+  bytes : SnpBytes
+  bytes-ok : answer (snpBytes arrays) s ≡ ok bytes
+  items : v ≡ snpsAt bytes (fitting 9 (leftFrom (arrays .genotypes .count) first) room) (first - 1)
 
-module _ (s : List ℕ) (first room : ℕ) (a : SnpArrays) (b : SnpBytes) (h : answer snpArrays s ≡ ok a) (w : answer (snpBytes a) s ≡ ok b) (f : isNumberOf first (a .genotypes .count) ≡ true) (g : 9 ≤ room) where
-  abbrev left : ℕ
-  left = leftFrom (a .genotypes .count) first
-
-  abbrev many : ℕ
-  many = fitting 9 left room
-
-  of-many : Numbered s first room (snpsAt b many (first - 1))
-  of-many =
-      let n = length-snps b many (first - 1) in
-      let m = number-within first (a .genotypes .count) f in
-      record { some = omega arith; fits = omega arith; each = each; own = own; all = all (leb (room / 9) left) refl }
-    where
-      each : (j : ℕ) (r : Answer Snp) (l : List (Answer Snp)) → drop j (snpsAt b many (first - 1)) ≡ r ∷ l → r ≡ answer (snpReading (first + j)) s
-      each j r l e =
-          let m = number-within first (a .genotypes .count) f in
-          let i = item-of b many (first - 1) j r l e in
-          let k : isNumberOf (first + j) (a .genotypes .count) ≡ true = rw (le-leb 1 (first + j) (omega arith), le-leb (first + j) (a .genotypes .count) (omega arith)) in
-          i .0 ∙ snp-any b (first - 1 + j) [] s ∙ ap (λ (x : ℕ). answer (snpAt b x) s) (omega arith) ∙ sym (snp-there s a h (first + j) b w k)
-
-      own : (j : ℕ) (r : Answer Snp) (l : List (Answer Snp)) → drop j (snpsAt b many (first - 1)) ≡ r ∷ l → Own r
-      own j r l e = rw (item-of b many (first - 1) j r l e .0) (snp-own b (first - 1 + j) [])
-
-      all : (c : Bool) → leb (room / 9) left ≡ c → (room < 9 * suc (length (snpsAt b many (first - 1)))) ⊎ (answer (snpReading (first + length (snpsAt b many (first - 1)))) s ≡ refused 12 0)
-      all true q =
-          let n = length-snps b many (first - 1) in
-          let u : room / 9 ≤ left = leb-true (room / 9) left q in
-          inl (omega arith)
-      all false q =
-          let n = length-snps b many (first - 1) in
-          let m = number-within first (a .genotypes .count) f in
-          let u : left < room / 9 = leb-false (room / 9) left q in
-          inr (rw n (snp-none s a h (first + many) (rw (le-leb 1 (first + many) (omega arith), lt-leb (first + many) (a .genotypes .count) (omega arith)))))
-
-pub numbered : (s : List ℕ) (first room : ℕ) (v : List (Answer Snp)) → answer (snpsReading first room) s ≡ ok v → Numbered s first room v
+passed : (s : List ℕ) (first room : ℕ) (v : List (Answer Snp)) → answer (snpsReading first room) s ≡ ok v → Passed s first room v
 unfolding snpsReading snpsOf holds
-numbered s first room v w =
+passed s first room v w =
     let a = bind-ok snpArrays _ s v w in
     let f = bind-ok _ _ s v (a .2) in
     let g = bind-ok _ _ s v (f .2) in
     let b = bind-ok (snpBytes (a .0)) _ s v (g .2) in
-    subst (Numbered s first room) (done-ok _ v s (b .2)) (of-many s first room (a .0) (b .0) (a .1) (b .1) (must-ok _ _ _ s (f .0) (f .1)) (leb-true 9 room (must-ok _ _ _ s (g .0) (g .1))))
+    let i = number-within first (a .0 .genotypes .count) (must-ok _ _ _ s (f .0) (f .1)) in
+    record {
+      arrays = a .0;
+      arrays-ok = a .1;
+      low = i .0;
+      high = i .1;
+      enough = leb-true 9 room (must-ok _ _ _ s (g .0) (g .1));
+      bytes = b .0;
+      bytes-ok = b .1;
+      items = sym (done-ok _ v s (b .2));
+    }
+
+module _ (s : List ℕ) (first room : ℕ) (v : List (Answer Snp)) (g : Passed s first room v) where
+  abbrev count : ℕ
+  count = g .arrays .genotypes .count
+
+  abbrev many : ℕ
+  many = fitting 9 (leftFrom count first) room
+
+  counted : length v ≡ many
+  counted = ap length (g .items) ∙ length-snps (g .bytes) many (first - 1)
+
+  -- SNP j of the items is SNP first + j
+  snp-is : (j : ℕ) → j < many → answer (snpAt (g .bytes) (first - 1 + j)) [] ≡ answer (snpReading (first + j)) s
+  snp-is j h =
+      let l = g .low in
+      let u = g .high in
+      let k : isNumberOf (first + j) count ≡ true = rw (le-leb 1 (first + j) (omega arith), le-leb (first + j) count (omega arith)) in
+      snp-any (g .bytes) (first - 1 + j) [] s ∙ ap (λ (x : ℕ). answer (snpAt (g .bytes) x) s) (omega arith) ∙ sym (snp-there s (g .arrays) (g .arrays-ok) (first + j) (g .bytes) (g .bytes-ok) k)
+
+  item : (j : ℕ) (r : Answer Snp) (l : List (Answer Snp)) → drop j v ≡ r ∷ l → r ≡ answer (snpReading (first + j)) s
+  item j r l h = let i = item-of (g .bytes) many (first - 1) j r l (ap (drop j) (sym (g .items)) ∙ h) in i .0 ∙ snp-is j (i .1)
+
+-- where the bulk call answers v
+module _ (s : List ℕ) (first room : ℕ) (v : List (Answer Snp)) (w : answer (snpsReading first room) s ≡ ok v) where
+  pub many-fit : (1 ≤ length v) × (9 * length v ≤ room)
+  many-fit =
+      let g = passed s first room v w in
+      let c = counted s first room v g in
+      let l = g .low in
+      let h = g .high in
+      let e = g .enough in
+      (omega arith, omega arith)
+
+  pub many-items : v ≡ answersFrom snpReading s first (length v)
+  many-items = answers-are snpReading s v first (item s first room v (passed s first room v w))
+
+  pub many-own : (j : ℕ) → j < length v → OfItem (answer (snpReading (first + j)) s)
+  many-own j h =
+      let g = passed s first room v w in
+      subst OfItem (snp-is s first room v g j (omega (arith, counted s first room v g))) (snp-own (g .bytes) (first - 1 + j) [])
+
+  -- no SNP is left, or no record fits behind them
+  pub many-all : (room < 9 * suc (length v)) ⊎ (answer (snpReading (first + length v)) s ≡ refused 12 0)
+  many-all = go (leb (9 * suc (length v)) room) refl
+    where
+      go : (b : Bool) → leb (9 * suc (length v)) room ≡ b → (room < 9 * suc (length v)) ⊎ (answer (snpReading (first + length v)) s ≡ refused 12 0)
+      go false q = inl (leb-false _ room q)
+      go true q =
+          let g = passed s first room v w in
+          let c = counted s first room v g in
+          let l = g .low in
+          let h = g .high in
+          let k = leb-true _ room q in
+          inr (snp-none s (g .arrays) (g .arrays-ok) (first + length v) (rw (le-leb 1 (first + length v) (omega arith), lt-leb (first + length v) (g .arrays .genotypes .count) (omega arith))))
+
+-- 13 is given only where not one fits: no check before that gives it, and none behind it
+module _ (s : List ℕ) (first room e : ℕ) where
+  abbrev Other : ℕ → ℕ → Type 0
+  Other n d = n ≡ 13 → ⊥
+
+  -- the elements, and what is answered of them
+  abbrev items : SnpArrays → Check (List (Answer Snp))
+  items a = snpBytes a >>= (λ b. done (snpsAt b (fitting 9 (leftFrom (a .genotypes .count) first) room) (first - 1)))
+
+  full-of : (a : SnpArrays) → answer (snpsOf a first room) s ≡ refused 13 e → room < 9
+  unfolding snpsOf holds
+  full-of a h = go (bind-stops _ _ s 13 e h)
+    where
+      rest : (answer (oneFits 9 room) s ≡ refused 13 e) ⊎ ((u : Unit {0}) × (answer (oneFits 9 room) s ≡ ok u) × (answer (items a) s ≡ refused 13 e)) → room < 9
+      rest (inl q) = leb-false 9 room (must-stops _ _ _ s 13 e q)
+      rest (inr q) = absurd (refusing Other (items a) (refusing-bind Other _ _ (bytes-refusing Other (λ z. omega arith) a) (λ b. none _)) s 13 e (q .2) refl)
+
+      go : (answer (provided (isNumberOf first (a .genotypes .count)) 12) s ≡ refused 13 e) ⊎ ((u : Unit {0}) × (answer (provided (isNumberOf first (a .genotypes .count)) 12) s ≡ ok u) × (answer (oneFits 9 room >> items a) s ≡ refused 13 e)) → room < 9
+      go (inl q) = absurd (refusing Other _ (refusing-must Other _ _ 12 (λ z. omega arith)) s 13 e q refl)
+      go (inr q) = rest (bind-stops _ _ s 13 e (q .2))
+
+  pub many-full : answer (snpsReading first room) s ≡ refused 13 e → room < 9
+  unfolding snpsReading
+  many-full h = go (bind-stops snpArrays _ s 13 e h)
+    where
+      go : (answer snpArrays s ≡ refused 13 e) ⊎ ((a : SnpArrays) × (answer snpArrays s ≡ ok a) × (answer (snpsOf a first room) s ≡ refused 13 e)) → room < 9
+      go (inl q) = absurd (refusing Other _ (arrays-refusing Other (λ z. omega arith) (λ z. omega arith) (λ z. omega arith) (λ z. omega arith) (λ z. omega arith) (λ z. omega arith) (λ z. omega arith) (λ z. omega arith) (λ z. omega arith) (λ z. omega arith)) s 13 e q refl)
+      go (inr q) = full-of (q .0) (q .2)

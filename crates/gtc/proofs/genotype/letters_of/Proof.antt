@@ -1,88 +1,87 @@
 use borrow.Author.Needs.{needs}
 use Rattle.gtc.proofs.genotype.letters_of.Statement.{statement}
 use Rattle.gtc.proofs.genotype.letters_of.Tie as tie
-use Rattle.reading.proofs.Tests.{tests}
-use Rattle.gtc.specs.Genotype.{lettersFrom}
+use native.Mathlib.Omega.{arith}
+use mathlib.Core.Path.{_∙_}
+use Rattle.gtc.proofs.genotype.Laws.{of-length}
+
+reaches-requires : tie.Need-reaches-requires
+reaches-requires c κs = search needs
+
+add-p : tie.Need-add-p
+add-p c = search needs
+
+reaches-requires-2 : tie.Need-reaches-requires-2
+reaches-requires-2 c κs = search needs
+
+add-p-2 : tie.Need-add-p-2
+add-p-2 c = search needs
+
+reaches-requires-3 : tie.Need-reaches-requires-3
+reaches-requires-3 c κs = search needs
+
+add-p-3 : tie.Need-add-p-3
+add-p-3 c = search needs
+
+reaches-requires-4 : tie.Need-reaches-requires-4
+reaches-requires-4 c κs = search needs
+
+add-p-4 : tie.Need-add-p-4
+add-p-4 c = search needs
+
+reaches-requires-5 : tie.Need-reaches-requires-5
+reaches-requires-5 c κs = search needs
+
+add-p-5 : tie.Need-add-p-5
+add-p-5 c = search needs
+
+add-letters : tie.Need-add-letters
+add-letters c = search needs
+
+mul-letters : tie.Need-mul-letters
+mul-letters c =
+    let z = c .before .before .before .before .before in
+    let q = of-length (z .args .code) (z .pre .0) (z .pre .1) _ _ _ _ _ (c .before .before .before .before .reaches .ensures .0) (c .before .before .before .reaches2 .ensures .0) (c .before .before .reaches3 .ensures .0) (c .before .reaches4 .ensures .0) (c .reaches5 .ensures .0) in
+    omega arith
+
+add-letters-2 : tie.Need-add-letters-2
+add-letters-2 c =
+    let z = c .before .before .before .before .before in
+    let q = of-length (z .args .code) (z .pre .0) (z .pre .1) _ _ _ _ _ (c .before .before .before .before .reaches .ensures .0) (c .before .before .before .reaches2 .ensures .0) (c .before .before .reaches3 .ensures .0) (c .before .reaches4 .ensures .0) (c .reaches5 .ensures .0) in
+    omega arith
 
 sub-letters : tie.Need-sub-letters
-sub-letters c = search needs
+sub-letters c =
+    let z = c .before .before .before .before .before in
+    let q = of-length (z .args .code) (z .pre .0) (z .pre .1) _ _ _ _ _ (c .before .before .before .before .reaches .ensures .0) (c .before .before .before .reaches2 .ensures .0) (c .before .before .reaches3 .ensures .0) (c .before .reaches4 .ensures .0) (c .reaches5 .ensures .0) in
+    omega arith
 
 letters-requires : tie.Need-letters-requires
 letters-requires c κs = search needs
 
 returns : tie.Need-returns
-unfolding lettersFrom
-returns c = search (tests, c .letters .ensures)
-
-sub-letters-2 : tie.Need-sub-letters-2
-sub-letters-2 c = search needs
-
-letters-requires-2 : tie.Need-letters-requires-2
-letters-requires-2 c κs = search needs
-
-returns-2 : tie.Need-returns-2
-unfolding lettersFrom
-returns-2 c = search (tests, c .letters2 .ensures)
-
-sub-letters-3 : tie.Need-sub-letters-3
-sub-letters-3 c = search needs
-
-letters-requires-3 : tie.Need-letters-requires-3
-letters-requires-3 c κs = search needs
-
-returns-3 : tie.Need-returns-3
-unfolding lettersFrom
-returns-3 c = search (tests, c .letters3 .ensures)
-
-sub-letters-4 : tie.Need-sub-letters-4
-sub-letters-4 c = search needs
-
-letters-requires-4 : tie.Need-letters-requires-4
-letters-requires-4 c κs = search needs
-
-returns-4 : tie.Need-returns-4
-unfolding lettersFrom
-returns-4 c = search (tests, c .letters4 .ensures)
-
-sub-letters-5 : tie.Need-sub-letters-5
-sub-letters-5 c = search needs
-
-letters-requires-5 : tie.Need-letters-requires-5
-letters-requires-5 c κs = search needs
-
-returns-5 : tie.Need-returns-5
-unfolding lettersFrom
-returns-5 c = search (tests, c .letters5 .ensures)
-
-sub-letters-6 : tie.Need-sub-letters-6
-sub-letters-6 c = search needs
-
-letters-requires-6 : tie.Need-letters-requires-6
-letters-requires-6 c κs = search needs
-
-returns-6 : tie.Need-returns-6
-unfolding lettersFrom
-returns-6 c = search (tests, c .letters6 .ensures)
+returns c =
+    let z = c .before .before .before .before .before .before in
+    let q = of-length (z .args .code) (z .pre .0) (z .pre .1) _ _ _ _ _ (c .before .before .before .before .before .reaches .ensures .0) (c .before .before .before .before .reaches2 .ensures .0) (c .before .before .before .reaches3 .ensures .0) (c .before .before .reaches4 .ensures .0) (c .before .reaches5 .ensures .0) in
+    c .letters .ensures ∙ q .is
 
 pub letters-of-spec : {M : Type 1} → statement M
 letters-of-spec =
     tie.close
     (tie.spec
+    reaches-requires
+    add-p
+    reaches-requires-2
+    add-p-2
+    reaches-requires-3
+    add-p-3
+    reaches-requires-4
+    add-p-4
+    reaches-requires-5
+    add-p-5
+    add-letters
+    mul-letters
+    add-letters-2
     sub-letters
     letters-requires
-    returns
-    sub-letters-2
-    letters-requires-2
-    returns-2
-    sub-letters-3
-    letters-requires-3
-    returns-3
-    sub-letters-4
-    letters-requires-4
-    returns-4
-    sub-letters-5
-    letters-requires-5
-    returns-5
-    sub-letters-6
-    letters-requires-6
-    returns-6)
+    returns)

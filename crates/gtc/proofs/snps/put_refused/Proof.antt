@@ -5,7 +5,7 @@ use lib.ListN.{set, length-set}
 use borrow.Author.Needs.{needs}
 use Rattle.gtc.proofs.snps.put_refused.Statement.{statement}
 use Rattle.gtc.proofs.snps.put_refused.Tie as tie
-use Rattle.gtc.proofs.snps.Laws.{put-behind}
+use Rattle.reading.proofs.bulk.Laws.{put-behind}
 
 mul-out : tie.Need-mul-out
 mul-out c = search needs

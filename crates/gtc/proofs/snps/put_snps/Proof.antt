@@ -8,7 +8,7 @@ use Rattle.reading.specs.Bulk.{records}
 use Rattle.reading.proofs.Fill.{Filling, fill-end}
 use Rattle.gtc.specs.Snps.{snpsAt, snpNumbers}
 use Rattle.gtc.proofs.snp.Laws.{elements-within}
-use Rattle.gtc.proofs.snps.Laws.{bytes, ahead, fill-first, fill-record}
+use Rattle.gtc.proofs.snps.Laws.{bytes, ahead, fill-first, fill-snp}
 use Rattle.gtc.proofs.snps.put_snps.Statement.{statement}
 use Rattle.gtc.proofs.snps.put_snps.Tie as tie
 
@@ -52,7 +52,7 @@ loop-again c =
     let g = p .before .before .before .before .before .before .before .args in
     let k = p .loop .k in
     let i = p .loop .inv in
-    (rw (c .before .before .put-record .ensures, s .snp-at .ensures []) (fill-record (bytes (g .g .now) (g .b .now) (g .f .now) (g .x .now) (g .y .now)) k _ _ _ _ _ (i .0) (omega arith)), omega arith, omega arith, omega arith)
+    (rw (c .before .before .put-record .ensures, s .snp-at .ensures []) (fill-snp (bytes (g .g .now) (g .b .now) (g .f .now) (g .x .now) (g .y .now)) k _ _ _ _ _ (i .0) (omega arith)), omega arith, omega arith, omega arith)
 
 same-length : tie.Need-same-length Inv-loop μ-loop
 same-length c = search needs
