@@ -2,6 +2,7 @@
 -- Assumes nothing.
 use Prim.Native.Nat.{ℕ, zero, suc, _+_, _*_}
 use mathlib.Core.List.{List}
+use lib.Dec.{eqb}
 use lib.IntN.{ℤ}
 use Rattle.reading.specs.Check.{Check}
 use Rattle.reading.specs.Part.{Span}
@@ -36,10 +37,10 @@ module _ (P : ℕ → ℕ → Type 0) (s : List ℕ) where
     contents-refuses : (k n : ℕ) (p : List ℕ) → Refuses P (contentsCheck k n p) s
     unfolding contentsCheck pString cString
     contents-refuses k n p =
-        refuses-pick P _ _ _ s (each-refuses (dateAt p) (date-refuses p) n 0)
-        (refuses-pick P _ _ _ s (each-refuses (timeAt p) (time-refuses p) n 0)
-        (refuses-pick P _ _ _ s (text-refuses p (pString (itself k p) p) (search (refuses-bind, refuses-must, refuses-done, value) depth 12))
-        (refuses-pick P _ _ _ s (text-refuses p (cString (itself k p) p) (search (refuses-bind, refuses-must, refuses-done, value) depth 12))
+        refuses-pick P (eqb k 10) _ _ s (each-refuses (dateAt p) (date-refuses p) n 0)
+        (refuses-pick P (eqb k 11) _ _ s (each-refuses (timeAt p) (time-refuses p) n 0)
+        (refuses-pick P (eqb k 18) _ _ s (text-refuses p (pString (itself k p) p) (search (refuses-bind, refuses-must, refuses-done, value) depth 12))
+        (refuses-pick P (eqb k 19) _ _ s (text-refuses p (cString (itself k p) p) (search (refuses-bind, refuses-must, refuses-done, value) depth 12))
         (refuses-done P _ s))))
 
   module _ (sizes : P 9 0) (type : P 10 0) (value : P 11 0) (order : P 14 0) where

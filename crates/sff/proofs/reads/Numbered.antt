@@ -166,7 +166,4 @@ module _ (s : List ℕ) (first room : ℕ) (v : List (Answer Read)) (w : answer 
 
 -- 13 only where not one fits
 pub many-full : (s : List ℕ) (first room e : ℕ) → answer (readsReading first room) s ≡ refused 13 e → room < 17
-many-full s first room e h = reads-refuses Full s (λ q. absurd (omega arith)) (λ q. absurd (omega arith)) (λ q. absurd (omega arith)) (λ q. absurd (omega arith)) (λ q. absurd (omega arith)) (λ q. absurd (omega arith)) first room (λ f _. leb-false 17 room f) .told 13 e h refl
-  where
-    Full : ℕ → ℕ → Type 0
-    Full n e = n ≡ 13 → room < 17
+many-full s first room e h = reads-refuses (λ n _. n ≡ 13 → room < 17) s (λ q. absurd (omega arith)) (λ q. absurd (omega arith)) (λ q. absurd (omega arith)) (λ q. absurd (omega arith)) (λ q. absurd (omega arith)) (λ q. absurd (omega arith)) first room (λ f _. leb-false 17 room f) .told 13 e h refl
