@@ -10,7 +10,7 @@ use Rattle.reading.specs.Number.{be, bits}
 use Rattle.reading.specs.Check.{answer}
 use Rattle.writing.specs.Put.{digits}
 use Rattle.abif.specs.Entry.{typeOf}
-use Rattle.abif_write.specs.Contents.{contentsCheck}
+use Rattle.abif_write.specs.ItemContents.{contentsCheck}
 use Rattle.abif_write.specs.Item.{given, writtenSize, countCheck, itemCheck, itemsCheck}
 use Rattle.abif_write.specs.Entry.{tagBytes, dataBytes, entryBytes, tdir, headerBytes, entryFor}
 use Rattle.abif_write.specs.File.{datas, entries, total, file, fileCheck}

@@ -1,0 +1,2 @@
+// Rules of contents that readers and writers share. They are lent bytes of an item or of a read, and no file.
+pub mod text;
