@@ -10,7 +10,7 @@ use Rattle.reading.proofs.Refused.{Refuses, refuses-done, refuses-must, refuses
 use Rattle.abif.specs.Element.{Value, dateAt, timeAt}
 use Rattle.abif.specs.Text.{pString, cString}
 use Rattle.abif_write.specs.declared.item.Item.{Item}
-use Rattle.abif_write.specs.Contents.{eachElement, textCheck, contentsCheck, itself}
+use Rattle.abif_write.specs.ItemContents.{eachElement, textCheck, contentsCheck, itself}
 use Rattle.abif_write.specs.Item.{countCheck, itemCheck, itemsCheck}
 use Rattle.abif_write.specs.File.{fileCheck}
 use Rattle.abif_write.specs.Write.{writing}

@@ -5,10 +5,10 @@ use native.Mathlib.Omega.{arith}
 use borrow.Author.Needs.{needs}
 use Rattle.reading.specs.Choice.{pick}
 use Rattle.reading.proofs.Loop.{Left, left-start, left-next, left-end}
-use Rattle.abif.specs.Text.{zeroAmong}
-use Rattle.abif.proofs.text.Laws.{zero-on, zero-end}
-use Rattle.abif.proofs.text.has_zero.Statement.{statement}
-use Rattle.abif.proofs.text.has_zero.Tie as tie
+use Rattle.contents.specs.Text.{zeroAmong}
+use Rattle.contents.proofs.text.Laws.{zero-on, zero-end}
+use Rattle.contents.proofs.text.has_zero.Statement.{statement}
+use Rattle.contents.proofs.text.has_zero.Tie as tie
 
 abbrev Inv-loop : tie.InvT-loop
 Inv-loop l n found₀ i₀ found i = (i ≤ n) × Left (λ m. pick found true (zeroAmong l i m)) n i (zeroAmong l 0 n)

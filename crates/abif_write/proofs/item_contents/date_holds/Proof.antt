@@ -2,8 +2,8 @@ use Rattle.reading.specs.Check.{answer}
 use Rattle.reading.proofs.Tests.{tests}
 use Rattle.abif.specs.Element.{dateAt}
 use borrow.Author.Needs.{needs}
-use Rattle.abif_write.proofs.contents.date_holds.Statement.{statement}
-use Rattle.abif_write.proofs.contents.date_holds.Tie as tie
+use Rattle.abif_write.proofs.item_contents.date_holds.Statement.{statement}
+use Rattle.abif_write.proofs.item_contents.date_holds.Tie as tie
 
 add-byte : tie.Need-add-byte
 add-byte c = search needs

@@ -1,5 +1,5 @@
 // What the contents of an item must be. Only dates, times and texts have rules.
-use abif::text::has_zero;
+use contents::text::has_zero;
 use reading::number::byte;
 ghost use mathlib.Core.Path.{_≡_};
 ghost use mathlib.Core.List.{[]};
@@ -7,7 +7,7 @@ ghost use Prim.Native.Nat.{_<_};
 ghost use Rattle.reading.specs.Check.{answer};
 ghost use Rattle.abif.specs.Element.{dateAt, timeAt};
 ghost use Rattle.abif.specs.Text.{pString, cString};
-ghost use Rattle.abif_write.specs.Contents.{alone, eachElement, itself, textCheck, contentsCheck, kept};
+ghost use Rattle.abif_write.specs.ItemContents.{alone, eachElement, itself, textCheck, contentsCheck, kept};
 
 fn date_holds(p: &[u8], place: usize) -> bool
     requires { ⌜ place < 0x8000000000000000 ⌝ }

@@ -1,10 +1,10 @@
 use native.Mathlib.Omega.{arith}
 use borrow.Author.Needs.{needs}
-use Rattle.abif_write.specs.Contents.{contentsCheck}
-use Rattle.abif_write.proofs.contents.Laws.{contents-free}
+use Rattle.abif_write.specs.ItemContents.{contentsCheck}
+use Rattle.abif_write.proofs.item_contents.Laws.{contents-free}
 use borrow.Author.Needs.{needs}
-use Rattle.abif_write.proofs.contents.contents_hold.Statement.{statement}
-use Rattle.abif_write.proofs.contents.contents_hold.Tie as tie
+use Rattle.abif_write.proofs.item_contents.contents_hold.Statement.{statement}
+use Rattle.abif_write.proofs.item_contents.contents_hold.Tie as tie
 
 dates-hold-requires : tie.Need-dates-hold-requires
 dates-hold-requires c κs = search needs

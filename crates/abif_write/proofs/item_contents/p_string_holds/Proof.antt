@@ -3,11 +3,11 @@ use native.Mathlib.Omega.{arith}
 use borrow.Author.Needs.{needs}
 use Rattle.abif.specs.Text.{pString}
 use Rattle.abif.proofs.text.Laws.{p-bad, p-good}
-use Rattle.abif_write.specs.Contents.{itself}
-use Rattle.abif_write.proofs.contents.Laws.{text-empty, text-bad, text-good}
+use Rattle.abif_write.specs.ItemContents.{itself}
+use Rattle.abif_write.proofs.item_contents.Laws.{text-empty, text-bad, text-good}
 use borrow.Author.Needs.{needs}
-use Rattle.abif_write.proofs.contents.p_string_holds.Statement.{statement}
-use Rattle.abif_write.proofs.contents.p_string_holds.Tie as tie
+use Rattle.abif_write.proofs.item_contents.p_string_holds.Statement.{statement}
+use Rattle.abif_write.proofs.item_contents.p_string_holds.Tie as tie
 
 returns : tie.Need-returns
 returns c =

@@ -5,12 +5,13 @@ use native.Mathlib.Omega.{arith}
 use lib.ListN.{length, length-take}
 use Rattle.reading.specs.Number.{be}
 use Rattle.abif.specs.Text.{cString}
-use Rattle.abif.proofs.text.Laws.{zero-taken, c-bad, c-inner, c-good}
-use Rattle.abif_write.specs.Contents.{itself}
-use Rattle.abif_write.proofs.contents.Laws.{text-empty, text-bad, text-good}
+use Rattle.contents.proofs.text.Laws.{zero-taken}
+use Rattle.abif.proofs.text.Laws.{c-bad, c-inner, c-good}
+use Rattle.abif_write.specs.ItemContents.{itself}
+use Rattle.abif_write.proofs.item_contents.Laws.{text-empty, text-bad, text-good}
 use borrow.Author.Needs.{needs}
-use Rattle.abif_write.proofs.contents.c_string_holds.Statement.{statement}
-use Rattle.abif_write.proofs.contents.c_string_holds.Tie as tie
+use Rattle.abif_write.proofs.item_contents.c_string_holds.Statement.{statement}
+use Rattle.abif_write.proofs.item_contents.c_string_holds.Tie as tie
 
 returns : tie.Need-returns
 returns c =

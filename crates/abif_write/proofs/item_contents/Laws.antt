@@ -11,7 +11,7 @@ use Rattle.reading.specs.Part.{Span}
 use Rattle.reading.proofs.Steps.{after, answer-bind, answer-must, answer-done}
 use Rattle.reading.proofs.Passed.{not-ok}
 use Rattle.abif.specs.Element.{Value}
-use Rattle.abif_write.specs.Contents.{alone, eachElement, textCheck, contentsCheck, kept}
+use Rattle.abif_write.specs.ItemContents.{alone, eachElement, textCheck, contentsCheck, kept}
 
 -- a rule that was tested, and what follows it
 module _ {A B : Type 0} (t : Check A) (u : Check B) (r : Bool) (e : kept r ≡ answer (alone t) []) where

@@ -2,8 +2,8 @@ use Rattle.reading.specs.Check.{answer}
 use Rattle.reading.proofs.Tests.{tests}
 use Rattle.abif.specs.Element.{timeAt}
 use borrow.Author.Needs.{needs}
-use Rattle.abif_write.proofs.contents.time_holds.Statement.{statement}
-use Rattle.abif_write.proofs.contents.time_holds.Tie as tie
+use Rattle.abif_write.proofs.item_contents.time_holds.Statement.{statement}
+use Rattle.abif_write.proofs.item_contents.time_holds.Tie as tie
 
 byte-requires : tie.Need-byte-requires
 byte-requires c κs = search needs
