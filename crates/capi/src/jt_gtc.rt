@@ -4,6 +4,7 @@ use crate::answers::Listed;
 use crate::answers::Snp;
 use crate::answers::TransformationAnswer;
 use crate::answers::Verdict;
+use crate::listed::as_listed;
 use gtc::genotype::b_alleles_of;
 use gtc::genotype::ploidy_of;
 use gtc::judge;
@@ -14,12 +15,11 @@ use gtc::snp;
 use gtc::snps;
 use gtc::transformation;
 use gtc::transformation::Transformation;
-use reading::bulk;
 ghost use mathlib.Core.Path.{_≡_};
 ghost use lib.ListN.{length};
 ghost use Rattle.reading.specs.Check.{answer, mapAnswer};
 ghost use Rattle.reading.specs.Lent.{filled};
-ghost use Rattle.reading.specs.Bulk.{records, listed};
+ghost use Rattle.reading.specs.Bulk.{records};
 ghost use Rattle.gtc.specs.Judge.{judging, verdict};
 ghost use Rattle.gtc.specs.Lookup.{lookingUp, found};
 ghost use Rattle.gtc.specs.Snp.{snpReading, snpRead};
@@ -130,18 +130,6 @@ pub extern "C" fn jt_gtc_snp(s: &[u8], index: u64) -> Snp
     ensures { λ r. ⌜ r ≡ asSnp (answer (snpReading index) (now (s .entry))) ⌝ }
 {
     as_snp(snp::read_snp(s, index))
-}
-
-fn as_listed(n: bulk::Listed) -> Listed
-    ensures { λ r. ⌜ r ≡ asListed (listed n) ⌝ }
-{
-    match n {
-        bulk::Listed::Count(count) => Listed { refusal: 0, count },
-        bulk::Listed::Refused(number) => Listed {
-            refusal: number as u64,
-            count: 0,
-        },
-    }
 }
 
 // Nine numbers for each SNP: the fields of its record in their order.
