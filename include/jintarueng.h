@@ -23,7 +23,13 @@
      13  lent output too small
      14  items not strictly ascending
 
-   A tag's name is its four bytes as a big-endian number: "DATA" is 0x44415441. */
+   A tag's name is its four bytes as a big-endian number: "DATA" is 0x44415441.
+
+   Bulk calls (jt_abif_whole_numbers, jt_sff_reads, jt_gtc_snps) go by one rule. They write the items from number
+   `first` on to the front of `out`, as many as are left and as it has room for, and answer how many; the next call goes
+   on at `first` + `count`. `room` counts numbers, and 13 is given only where not one item fits. An item is what the
+   single call answers for its number, its own refusal of what stands in the read or SNP included (11, then zeros), so
+   that one bad read or SNP does not hide the others. Behind the items `out` is as it was; refused, all of it is. */
 #ifndef JINTARUENG_H
 #define JINTARUENG_H
 
@@ -102,7 +108,7 @@ typedef struct jt_entry {
     int32_t data_handle;
 } jt_entry;
 
-/* How many elements were written to the lent output. */
+/* How many entries, elements, reads or SNPs were written to the lent output. */
 typedef struct jt_listed {
     uint64_t refusal;
     uint64_t count;
@@ -148,6 +154,9 @@ struct jt_sff_read {
     uint64_t insert_length;
 };
 
+/* How many numbers jt_sff_reads writes for a read: the fields of struct jt_sff_read in their order. */
+enum { JT_READ_NUMBERS = 17 };
+
 /* A flow's position, from one. */
 typedef struct jt_flow {
     uint64_t refusal;
@@ -168,8 +177,8 @@ typedef struct jt_snp {
     uint64_t y;
 } jt_snp;
 
-/* How many numbers jt_gtc_snps writes for a SNP: the fields of jt_snp from `code` to `y`. */
-enum { JT_SNP_NUMBERS = 8 };
+/* How many numbers jt_gtc_snps writes for a SNP: the fields of jt_snp in their order. */
+enum { JT_SNP_NUMBERS = 9 };
 
 /* A normalization transformation of a GTC file. A float that is a NaN is some NaN. */
 typedef struct jt_transformation {
@@ -188,8 +197,10 @@ typedef struct jt_transformation {
     float reserved_6;
 } jt_transformation;
 
+/* A transformation, and where its 52 bytes stand: a NaN's bits are had there. */
 typedef struct jt_transformation_answer {
     uint64_t refusal;
+    uint64_t start;
     jt_transformation value;
 } jt_transformation_answer;
 
@@ -234,8 +245,9 @@ jt_part jt_abif_text(const uint8_t *bytes, size_t len, uint32_t name, int32_t nu
    jt_abif_open, 13. Refused, `entries` is unchanged; else it is unchanged behind the last entry. */
 jt_listed jt_abif_list(const uint8_t *bytes, size_t len, jt_entry *entries, size_t room);
 
-/* The elements of the item with this tag from number `first` on, as many as are left, at the front of `out`. Refusals:
-   the lookup's, 10 for a type whose elements are not whole numbers, 12, 13. Refused, `out` is unchanged. */
+/* A bulk call: the elements of the item with this tag, a number each. The tag is looked up once, however many elements
+   there are. Refusals: the lookup's, 10 for a type whose elements are not whole numbers, 12, 13. Refused, `out` is
+   unchanged; else it is unchanged behind the last element. */
 jt_listed jt_abif_whole_numbers(const uint8_t *bytes, size_t len, uint32_t name, int32_t number, uint64_t first,
                                 int64_t *out, size_t room);
 
@@ -271,13 +283,10 @@ struct jt_sff_header jt_sff_header(const uint8_t *bytes, size_t len);
 /* Read `k`, from one: the checks of the header and of all reads up to this one, then of what stands in it. */
 struct jt_sff_read jt_sff_read(const uint8_t *bytes, size_t len, uint64_t k);
 
-/* Where the reads from number `first` on start, as many as are left, at the front of `out`. All reads are checked, but
-   not what stands in them. Refusals: the header's, 7, the reads', 13. Refused, `out` is unchanged. */
-jt_listed jt_sff_places(const uint8_t *bytes, size_t len, uint64_t first, uint64_t *out, size_t room);
-
-/* The read that starts at this place: the checks of the header, then of this read alone. At a place that jt_sff_places
-   gives, the answer is that of jt_sff_read. */
-struct jt_sff_read jt_sff_read_at(const uint8_t *bytes, size_t len, uint64_t start);
+/* A bulk call: the reads, JT_READ_NUMBERS numbers each. Every call walks the reads from the front, so that it is best
+   asked for many. Refusals: the header's, 7, 13, then those of the walk as far as the last read that there is room for.
+   Refused, `out` is unchanged; else it is unchanged behind the last read. */
+jt_listed jt_sff_reads(const uint8_t *bytes, size_t len, uint64_t first, uint64_t *out, size_t room);
 
 /* The flow that base `base`, from one, of read `k` was called from. Refusals: those of jt_sff_read, 12. */
 jt_flow jt_sff_flow_of_base(const uint8_t *bytes, size_t len, uint64_t k, uint64_t base);
@@ -314,10 +323,8 @@ jt_item jt_gtc_lookup(const uint8_t *bytes, size_t len, uint16_t id);
    order, then 12, then 11. */
 jt_snp jt_gtc_snp(const uint8_t *bytes, size_t len, uint64_t index);
 
-/* The records of the SNPs from number `first` on, as many as are left, at the front of `out`: for each the eight
-   numbers of jt_snp behind `refusal`, in their order. `room` counts numbers, and the answer's `count` SNPs. The arrays
-   are looked up once, however many SNPs there are. Refusals: the lookups' as above, 12, 11 where a SNP from `first` on
-   has a genotype or a base call that the format forbids, 13. Refused, `out` is unchanged. */
+/* A bulk call: the SNPs, JT_SNP_NUMBERS numbers each. The arrays are looked up once, however many SNPs there are.
+   Refusals: the lookups' as above, 12, 13. Refused, `out` is unchanged; else it is unchanged behind the last SNP. */
 jt_listed jt_gtc_snps(const uint8_t *bytes, size_t len, uint64_t first, uint64_t *out, size_t room);
 
 /* Transformation `k`, from one. Refusals: those of looking up id 400, 12. */

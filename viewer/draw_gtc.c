@@ -10,9 +10,7 @@
 #include <string.h>
 
 enum {
-    NOT_CALLED = 0, /* the genotypes by their codes */
-    NULL_GENOTYPE = 4,
-    GENOTYPES = 46,
+    GENOTYPES = 46,     /* the classes are the genotypes by their codes */
     UNREAD = GENOTYPES, /* the class of SNPs whose genotypes cannot be read */
     CLASSES,
     PLOT_SIZE = 760,
@@ -51,31 +49,34 @@ static void add_snp(struct scatter *scatter, uint64_t class, uint64_t x, uint64_
     scatter->in_class[class]++;
 }
 
+/* A record that is refused by itself is counted. */
 static void add_record(struct scatter *scatter, const jt_snp *record) {
+    if (record->refusal != 0) {
+        scatter->forbidden++;
+        return;
+    }
     scatter->ploidy[record->code] = (uint8_t)record->ploidy;
     scatter->b_alleles[record->code] = (uint8_t)record->b_alleles;
     add_snp(scatter, record->code, record->x, record->y);
 }
 
-/* All records at once; where the bulk call refuses one of them, one by one. */
-static void read_records(struct scatter *scatter, uint64_t count) {
+/* All records, some at a time until none is left; answers with the refusal of the first call. */
+static uint64_t read_records(struct scatter *scatter) {
+    enum { AT_ONCE = 512 };
     const struct file *file = scatter->picture->file;
-    uint64_t *numbers = take(JT_SNP_NUMBERS * count, sizeof *numbers);
-    jt_listed listed = jt_gtc_snps(file->bytes, file->length, 1, numbers, JT_SNP_NUMBERS * count);
-    for (uint64_t i = 0; i < count; i++) {
-        jt_snp record = {.refusal = listed.refusal};
-        if (listed.refusal == 0) {
-            memcpy(&record.code, numbers + JT_SNP_NUMBERS * i, JT_SNP_NUMBERS * sizeof *numbers);
-        } else {
-            record = jt_gtc_snp(file->bytes, file->length, i + 1);
-        }
-        if (record.refusal == 0) {
+    uint64_t numbers[AT_ONCE * JT_SNP_NUMBERS];
+    uint64_t first = 1;
+    jt_listed listed;
+    do {
+        listed = jt_gtc_snps(file->bytes, file->length, first, numbers, AT_ONCE * JT_SNP_NUMBERS);
+        for (uint64_t i = 0; i < listed.count; i++) {
+            jt_snp record;
+            memcpy(&record, numbers + JT_SNP_NUMBERS * i, sizeof record);
             add_record(scatter, &record);
-        } else {
-            scatter->forbidden++;
         }
-    }
-    free(numbers);
+        first += listed.count;
+    } while (listed.refusal == 0);
+    return first == 1 ? listed.refusal : 0;
 }
 
 /* Without records, the intensities alone, if both are there. */
@@ -96,13 +97,9 @@ static void read_snps(struct scatter *scatter) {
     for (int i = 0; i < PARTS; i++) {
         scatter->parts[i] = jt_gtc_lookup(file->bytes, file->length, IDS[i]);
     }
-    uint64_t count = scatter->parts[X_PART].count;
-    scatter->snps = take(count, sizeof *scatter->snps);
-    scatter->refusal = jt_gtc_snp(file->bytes, file->length, 1).refusal;
-    if (scatter->refusal == 0 || scatter->refusal == FORBIDDEN_VALUE) {
-        scatter->refusal = 0;
-        read_records(scatter, count);
-    } else if (scatter->refusal != NO_SUCH_ELEMENT) {
+    scatter->snps = take(scatter->parts[X_PART].count, sizeof *scatter->snps);
+    scatter->refusal = read_records(scatter);
+    if (scatter->refusal != 0 && scatter->refusal != NO_SUCH_ELEMENT) {
         read_intensities(scatter);
     }
 }
@@ -116,16 +113,12 @@ static void choose_scale(struct scatter *scatter) {
     scatter->top = round_above(highest);
 }
 
-static void genotype_name(const struct scatter *scatter, int class, char name[16]) {
-    if (class == NOT_CALLED || class == NULL_GENOTYPE || class == UNREAD) {
-        snprintf(name, 16, "%s", class == NOT_CALLED ? "NC" : class == NULL_GENOTYPE ? "NULL" : "unread");
-        return;
+static void class_name(const struct scatter *scatter, int class, char name[GENOTYPE_LENGTH]) {
+    if (class == UNREAD) {
+        snprintf(name, GENOTYPE_LENGTH, "unread");
+    } else {
+        genotype_name(class, scatter->ploidy[class], scatter->b_alleles[class], name);
     }
-    int b = scatter->b_alleles[class];
-    int a = scatter->ploidy[class] - b;
-    memset(name, 'A', (size_t)a);
-    memset(name + a, 'B', (size_t)b);
-    name[a + b] = '\0';
 }
 
 /* From dark for all A to light for all B, so that they can be told apart in grey too. */
@@ -186,8 +179,8 @@ static void draw_marks(struct scatter *scatter, int class) {
 
 static void draw_class(struct scatter *scatter, int class) {
     struct svg *svg = &scatter->picture->svg;
-    char name[16];
-    genotype_name(scatter, class, name);
+    char name[GENOTYPE_LENGTH];
+    class_name(scatter, class, name);
     svg_format(svg, "<path class=\"snps\" data-genotype=\"%s\" data-count=\"%" PRIu64 "\" ", name,
                scatter->in_class[class]);
     draw_paint(scatter, class);
@@ -252,8 +245,8 @@ static bool look_the_same(const struct scatter *scatter, int left, int right) {
 /* A name in the list of those that look the same: the first few, and a sign that there are more. */
 static void draw_name(struct scatter *scatter, int class, int names) {
     enum { FEW = 4 };
-    char name[16];
-    genotype_name(scatter, class, name);
+    char name[GENOTYPE_LENGTH];
+    class_name(scatter, class, name);
     if (names < FEW) {
         svg_format(&scatter->picture->svg, "%s<tspan font-weight=\"bold\">%s</tspan>", names > 0 ? ", " : "", name);
     } else if (names == FEW) {

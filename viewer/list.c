@@ -9,7 +9,7 @@ enum status list_file(const struct file *file) {
         answered = list_abif(file);
         break;
     case FORMAT_SFF:
-        answered = list_sff(file, is_whole(&judgement));
+        answered = list_sff(file, &judgement.verdict);
         break;
     case FORMAT_GTC:
         answered = list_gtc(file);

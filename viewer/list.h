@@ -6,7 +6,7 @@
 
 /* Each prints its list and tells whether all that it asked for was answered. */
 bool list_abif(const struct file *file);
-bool list_sff(const struct file *file, bool whole);
+bool list_sff(const struct file *file, const jt_verdict *verdict);
 bool list_gtc(const struct file *file);
 
 /* Prints the file's line and its list. */

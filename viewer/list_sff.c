@@ -5,6 +5,7 @@
 
 #include <inttypes.h>
 #include <stdlib.h>
+#include <string.h>
 
 static void print_header(const struct file *file, const struct jt_sff_header *header) {
     printf("reads %" PRIu64 ", flows %" PRIu64 ", key ", header->reads, header->flows);
@@ -24,11 +25,15 @@ static void print_clips(uint64_t left, uint64_t right) {
     printf("  %5" PRIu64 " %5" PRIu64, left, right);
 }
 
+static void print_refused_read(uint64_t k, uint64_t refusal) {
+    printf("%8" PRIu64 "  ", k);
+    print_refusal(refusal);
+    putchar('\n');
+}
+
 static void print_read(const struct file *file, uint64_t k, const struct jt_sff_read *read) {
     if (read->refusal != 0) {
-        printf("%8" PRIu64 "  ", k);
-        print_refusal(read->refusal);
-        putchar('\n');
+        print_refused_read(k, read->refusal);
         return;
     }
     printf("%8" PRIu64 "  %7" PRIu64, k, read->bases);
@@ -40,52 +45,45 @@ static void print_read(const struct file *file, uint64_t k, const struct jt_sff_
     putchar('\n');
 }
 
-/* All reads of a file whose reads are all there. */
-static bool list_all(const struct file *file, uint64_t reads) {
-    uint64_t *places = take(reads, sizeof *places);
-    jt_listed listed = jt_sff_places(file->bytes, file->length, 1, places, reads);
-    bool answered = listed.refusal == 0;
-    for (uint64_t k = 1; k <= listed.count; k++) {
-        struct jt_sff_read read = jt_sff_read_at(file->bytes, file->length, places[k - 1]);
-        print_read(file, k, &read);
+/* Reads from number `first` on, as the bulk call wrote them. */
+static bool print_reads(const struct file *file, uint64_t first, const uint64_t *numbers, uint64_t count) {
+    bool answered = true;
+    for (uint64_t i = 0; i < count; i++) {
+        struct jt_sff_read read;
+        memcpy(&read, numbers + JT_READ_NUMBERS * i, sizeof read);
+        print_read(file, first + i, &read);
         answered = answered && read.refusal == 0;
     }
-    free(places);
     return answered;
 }
 
-static uint64_t padded(uint64_t length) {
-    return (length + 7) / 8 * 8;
-}
-
-/* The boundary itself, or behind the index if that stands there. */
-static uint64_t past_the_index(const struct jt_sff_header *header, uint64_t boundary) {
-    bool at_index = header->index_length != 0 && boundary == header->index_offset;
-    return at_index ? boundary + padded(header->index_length) : boundary;
-}
-
-/* Where the next read starts, behind one that is there at this place, whether or not its contents are refused. */
-static uint64_t place_behind(const struct file *file, const struct jt_sff_header *header, uint64_t place) {
-    enum { BASES_FIELD = 4 };
-    uint64_t bases = big_endian_32(file, place + BASES_FIELD);
-    uint64_t data = padded(2 * header->flows + 3 * bases);
-    return past_the_index(header, place + big_endian_16(file, place) + data);
-}
-
-/* The reads of a refused file, up to the first that is not there. */
-static void list_until_refused(const struct file *file, const struct jt_sff_header *header) {
-    uint64_t place = past_the_index(header, header->header_length);
-    for (uint64_t k = 1; k <= header->reads; k++) {
-        struct jt_sff_read read = jt_sff_read_at(file->bytes, file->length, place);
-        print_read(file, k, &read);
-        if (read.refusal != 0 && read.refusal != FORBIDDEN_VALUE) {
-            return;
+/* So many reads, many at once. A call that is refused, because the index stands before one of its reads and is cut, is
+   made again for half as many; made for one read, its refusal is that read's, and none behind it is there. */
+static bool list_reads(const struct file *file, uint64_t reads) {
+    enum { MOST_AT_ONCE = 1 << 16 };
+    uint64_t asked = reads < MOST_AT_ONCE ? reads : MOST_AT_ONCE;
+    uint64_t *numbers = take_unset(JT_READ_NUMBERS * asked, sizeof *numbers);
+    uint64_t first = 1;
+    bool answered = true;
+    while (first <= reads && asked > 0) {
+        jt_listed listed = jt_sff_reads(file->bytes, file->length, first, numbers, JT_READ_NUMBERS * asked);
+        if (listed.refusal == 0) {
+            answered = print_reads(file, first, numbers, listed.count) && answered;
+            first += listed.count;
+            continue;
         }
-        place = place_behind(file, header, place);
+        if (asked == 1) {
+            print_refused_read(first, listed.refusal);
+        }
+        asked /= 2;
+        answered = false;
     }
+    free(numbers);
+    return answered;
 }
 
-bool list_sff(const struct file *file, bool whole) {
+/* Judging names the read that is not there; the others before it are. Where it refuses the index it names none. */
+bool list_sff(const struct file *file, const jt_verdict *verdict) {
     struct jt_sff_header header = jt_sff_header(file->bytes, file->length);
     if (header.refusal != 0) {
         print_refused("header", header.refusal);
@@ -93,9 +91,10 @@ bool list_sff(const struct file *file, bool whole) {
     }
     print_header(file, &header);
     printf("%8s  %7s  %11s  %11s  %11s  %s\n", "read", "bases", "quality", "adapter", "insert", "name");
-    if (whole) {
-        return header.reads == 0 || list_all(file, header.reads);
+    if (verdict->entry == 0) {
+        return list_reads(file, header.reads);
     }
-    list_until_refused(file, &header);
+    list_reads(file, verdict->entry - 1);
+    print_refused_read(verdict->entry, verdict->refusal);
     return false;
 }

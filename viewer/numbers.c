@@ -20,10 +20,6 @@ uint16_t big_endian_16(const struct file *file, uint64_t place) {
     return (uint16_t)(byte_at(file, place) << 8 | byte_at(file, place + 1));
 }
 
-uint32_t big_endian_32(const struct file *file, uint64_t place) {
-    return (uint32_t)big_endian_16(file, place) << 16 | big_endian_16(file, place + 2);
-}
-
 uint16_t little_endian_16(const struct file *file, uint64_t place) {
     return (uint16_t)(byte_at(file, place + 1) << 8 | byte_at(file, place));
 }

@@ -10,7 +10,6 @@ uint8_t byte_at(const struct file *file, uint64_t place);
 uint16_t big_endian_16(const struct file *file, uint64_t place);
 uint16_t little_endian_16(const struct file *file, uint64_t place);
 uint32_t little_endian_32(const struct file *file, uint64_t place);
-uint32_t big_endian_32(const struct file *file, uint64_t place);
 float little_endian_float(const struct file *file, uint64_t place);
 
 #endif

@@ -1,6 +1,7 @@
 #include "words.h"
 
 #include <inttypes.h>
+#include <string.h>
 
 const char *refusal_meaning(uint64_t refusal) {
     static const char *const meanings[] = {
@@ -84,6 +85,16 @@ const struct gtc_row *gtc_row_of(uint16_t id) {
         }
     }
     return NULL;
+}
+
+void genotype_name(int code, int ploidy, int b_alleles, char name[GENOTYPE_LENGTH]) {
+    if (ploidy == 0) {
+        snprintf(name, GENOTYPE_LENGTH, "%s", code == NULL_GENOTYPE ? "NULL" : "NC");
+        return;
+    }
+    memset(name, 'B', (size_t)ploidy);
+    memset(name, 'A', (size_t)(ploidy - b_alleles));
+    name[ploidy] = '\0';
 }
 
 void print_refusal(uint64_t refusal) {

@@ -36,6 +36,12 @@ struct gtc_row {
 /* The row of an id, or NULL. */
 const struct gtc_row *gtc_row_of(uint16_t id);
 
+/* The genotype of code 4, which has no letters, as NC has none; and the room for a genotype's name. */
+enum { NULL_GENOTYPE = 4, GENOTYPE_LENGTH = 16 };
+
+/* A genotype's name: as many letters as its ploidy, A first and then B; NC or NULL where there are none. */
+void genotype_name(int code, int ploidy, int b_alleles, char name[GENOTYPE_LENGTH]);
+
 /* Prints bytes as text: those outside 32 to 126 as a full stop. */
 void print_bytes(const uint8_t *bytes, size_t length);
 

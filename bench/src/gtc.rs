@@ -2,10 +2,10 @@
 
 use crate::timing::compare_times;
 use compare::answers::{Listed, Verdict};
-use compare::gtc::answers::{Point, Snp};
+use compare::gtc::answers::{Point, Snp, SNP_NUMBERS};
 use compare::gtc::generate;
 use compare::gtc::library;
-use compare::gtc::reader::{self, SnpArrays, Transformation, RECORD_NUMBERS};
+use compare::gtc::reader::{self, SnpArrays, Transformation};
 use compare::random::Random;
 use std::hint::black_box;
 
@@ -63,8 +63,8 @@ pub fn single_snps(file: &[u8]) {
 
 // Each side writes into a buffer of its own, which is not cleared between the calls.
 pub fn all_snps(file: &[u8]) {
-    let mut ours = vec![0; RECORD_NUMBERS * SNPS];
-    let mut plain = vec![0; RECORD_NUMBERS * SNPS];
+    let mut ours = vec![0; SNP_NUMBERS * SNPS];
+    let mut plain = vec![0; SNP_NUMBERS * SNPS];
     let answer = reader::snps(file, 1, &mut plain);
     assert_eq!(answer, Ok(SNPS));
     assert_eq!(library::snps(file, 1, &mut ours), Listed::from(answer));
@@ -86,7 +86,9 @@ pub fn all_snps(file: &[u8]) {
 /// Raw intensities of every SNP to points, against one loop that plain Rust may take several at a
 /// time in, and against a call for each, with the transformation by value.
 pub fn normalising(file: &[u8]) {
-    let by = reader::transformation(file, 1).expect("the file has a transformation");
+    let by = reader::transformation(file, 1)
+        .expect("the file has a transformation")
+        .value;
     let (cosine, sine) = (by.theta.cos(), by.theta.sin());
     let mut random = Random::new(2);
     let raw: Vec<[u16; 2]> = (0..SNPS)

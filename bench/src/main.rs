@@ -16,9 +16,7 @@ fn main() {
     abif::writing("mixed types", &abif::MIXED_TYPES);
     let file = sff::instrument_file();
     sff::judging(&file);
-    sff::places(&file);
-    sff::reads_at_places(&file);
-    sff::every_read(&file);
+    sff::all_reads(&file);
     sff::writing();
     let file = gtc::array_file();
     gtc::judging(&file);

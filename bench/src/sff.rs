@@ -1,10 +1,10 @@
-//! SFF: judging, all reads of a large file in order, and writing.
+//! SFF: judging, all reads of a large file at once, and writing.
 
 use crate::timing::compare_times;
-use compare::answers::{Finished, Verdict};
+use compare::answers::{Finished, Listed, Verdict};
 use compare::random::Random;
 use compare::refusal::Refusal;
-use compare::sff::answers::Read;
+use compare::sff::answers::{Read, READ_NUMBERS};
 use compare::sff::writer::{self, LentRead};
 use compare::sff::writing::generate::sized_read;
 use compare::sff::{generate, library, reader};
@@ -39,88 +39,41 @@ pub fn judging(file: &[u8]) {
     );
 }
 
-/// The places of all reads in one call.
-pub fn places(file: &[u8]) {
+/// All reads in one call, against one walk that writes each read's numbers as it comes to it; each
+/// side writes into a buffer of its own, which is not cleared between the calls.
+pub fn all_reads(file: &[u8]) {
     let reads = library::header(file).reads as usize;
-    let mut ours = vec![0; reads];
-    let mut plain = vec![0; reads];
+    let mut ours = vec![0; READ_NUMBERS * reads];
+    let mut plain = vec![0; READ_NUMBERS * reads];
+    let listed = Listed {
+        refusal: 0,
+        count: reads as u64,
+    };
+    assert_eq!(library::reads(file, 1, &mut ours), listed);
+    assert_eq!(write_as_it_walks(file, &mut plain), Ok(()));
+    assert!(ours == plain);
+    assert!(ours.chunks(READ_NUMBERS).all(|read| read[0] == 0));
     compare_times(
-        &format!("finding the places of its {reads} reads"),
+        &format!("reading its {reads} reads at once"),
         ROUNDS,
         || {
-            black_box(library::places(black_box(file), 1, &mut ours));
+            let out = black_box(&mut ours[..]);
+            black_box(library::reads(black_box(file), 1, out));
         },
         || {
-            let _ = black_box(reader::places(black_box(file), 1, &mut plain));
-        },
-    );
-    assert_eq!(ours, plain);
-}
-
-/// All reads in order, each at its place.
-pub fn reads_at_places(file: &[u8]) {
-    let mut places = vec![0; library::header(file).reads as usize];
-    check_reads(file, &mut places);
-    compare_times(
-        "reading each at its place",
-        ROUNDS,
-        || {
-            for &place in black_box(&places) {
-                black_box(library::read_at(black_box(file), place));
-            }
-        },
-        || {
-            for &place in black_box(&places) {
-                let _ = black_box(reader::read_at(black_box(file), place));
-            }
+            let out = black_box(&mut plain[..]);
+            let _ = black_box(write_as_it_walks(black_box(file), out));
         },
     );
 }
 
-/// All places, then all reads: against the same two steps, and against one walk that reads as it goes.
-pub fn every_read(file: &[u8]) {
-    let reads = library::header(file).reads as usize;
-    let mut ours = vec![0; reads];
-    let mut plain = vec![0; reads];
-    compare_times(
-        "places and reads",
-        ROUNDS,
-        || read_at_places(file, &mut ours),
-        || {
-            let _ = black_box(reader::places(black_box(file), 1, &mut plain));
-            for &place in black_box(&plain) {
-                let _ = black_box(reader::read_at(black_box(file), place));
-            }
-        },
-    );
-    compare_times(
-        "places and reads, against one walk",
-        ROUNDS,
-        || read_at_places(file, &mut ours),
-        || {
-            let _ = black_box(reader::every_read(black_box(file), |read| {
-                let _ = black_box(read);
-            }));
-        },
-    );
-}
-
-fn read_at_places(file: &[u8], places: &mut [u64]) {
-    black_box(library::places(black_box(file), 1, places));
-    for &place in black_box(&*places) {
-        black_box(library::read_at(black_box(file), place));
-    }
-}
-
-// Both sides read the same, and refuse nothing.
-fn check_reads(file: &[u8], places: &mut [u64]) {
-    let mut plain: Vec<Read> = Vec::new();
-    let walked = reader::every_read(file, |read| plain.push(read.into()));
-    assert_eq!(walked, Ok(()));
-    assert_eq!(library::places(file, 1, places).refusal, 0);
-    assert!(plain.iter().all(|read| read.refusal == 0));
-    let ours = places.iter().map(|&place| library::read_at(file, place));
-    assert!(ours.eq(plain));
+fn write_as_it_walks(file: &[u8], out: &mut [u64]) -> Result<(), Refusal> {
+    let mut slots = out.chunks_exact_mut(READ_NUMBERS);
+    reader::every_read(file, |read| {
+        if let Some(slot) = slots.next() {
+            slot.copy_from_slice(&Read::from(read).numbers());
+        }
+    })
 }
 
 /// A file of reads of 400 to 500 bases with 800 flows, each side into a buffer of its own, which is

@@ -1,5 +1,6 @@
 /* The header fits the archive: sizes of the structs, and each call on the files W2 and W7 to W11 of document 01, of
-   which W2, W7 and W8 are also written; listing on W2 with a second entry. */
+   which W2, W7 and W8 are also written; listing on W2 with a second entry, and the bulk call on W8 with a second
+   read. */
 #include "jintarueng.h"
 
 #include <stddef.h>
@@ -97,7 +98,13 @@ TRANSFORMATION_FIELD(shear, 5);
 TRANSFORMATION_FIELD(theta, 6);
 TRANSFORMATION_FIELD(reserved_1, 7);
 TRANSFORMATION_FIELD(reserved_6, 12);
-_Static_assert(offsetof(jt_transformation_answer, value) == 8, "value");
+FIELD(jt_transformation_answer, refusal, 0);
+FIELD(jt_transformation_answer, start, 1);
+_Static_assert(offsetof(jt_transformation_answer, value) == 16, "value");
+
+/* A bulk call writes all fields of the single call's answer. */
+_Static_assert(JT_READ_NUMBERS * 8 == sizeof(struct jt_sff_read), "numbers of a read");
+_Static_assert(JT_SNP_NUMBERS * 8 == sizeof(jt_snp), "numbers of a SNP");
 
 static size_t make_file(uint8_t *file) {
     static const uint8_t header[] = {0x41, 0x42, 0x49, 0x46, 0x00, 0x65, 0x74, 0x64, 0x69, 0x72, 0x00, 0x00, 0x00, 0x01, 0x03, 0xFF, 0x00,
@@ -200,7 +207,7 @@ static void check_sizes(void) {
     check(sizeof(jt_flow) == 16, "size of jt_flow");
     check(sizeof(jt_snp) == 72, "size of jt_snp");
     check(sizeof(jt_transformation) == 52, "size of jt_transformation");
-    check(sizeof(jt_transformation_answer) == 64, "size of jt_transformation_answer");
+    check(sizeof(jt_transformation_answer) == 72, "size of jt_transformation_answer");
     check(sizeof(jt_point) == 8, "size of jt_point");
     check(sizeof(jt_written) == 16, "size of jt_written");
     check(sizeof(jt_sff_writer) == 40, "size of jt_sff_writer");
@@ -321,6 +328,11 @@ static void check_answers(const uint8_t *file, size_t len) {
     jt_listed listed = jt_abif_whole_numbers(file, len, ABCD, 1, 1, out, 4);
     check(listed.refusal == 0 && listed.count == 2, "whole numbers");
     check(out[0] == 1 && out[1] == -2 && out[2] == 7 && out[3] == 7, "the lent output");
+    out[1] = 7;
+    listed = jt_abif_whole_numbers(file, len, ABCD, 1, 1, out, 1);
+    check(listed.refusal == 0 && listed.count == 1 && out[0] == 1 && out[1] == 7, "room for one whole number");
+    listed = jt_abif_whole_numbers(file, len, ABCD, 1, 2, out, 4);
+    check(listed.refusal == 0 && listed.count == 1 && out[0] == -2 && out[1] == 7, "the last whole number");
 }
 
 static void check_refusals(const uint8_t *file, size_t len) {
@@ -328,7 +340,10 @@ static void check_refusals(const uint8_t *file, size_t len) {
     check(cut.refusal == 1 && cut.entry == 0 && cut.extent == 0, "judging a cut file");
     check(jt_abif_judge(NULL, 0).refusal == 1, "judging no bytes");
     check(jt_abif_lookup(file, len, ABCD, -1).refusal == 7, "a tag that is not there");
+    int64_t out[1] = {7};
     check(jt_abif_whole_numbers(file, len, ABCD, 1, 1, NULL, 0).refusal == 13, "an output with no room");
+    check(jt_abif_whole_numbers(file, len, ABCD, 1, 3, NULL, 0).refusal == 12, "no whole numbers left, and no room");
+    check(jt_abif_whole_numbers(file, len, ABCD, 1, 0, out, 1).refusal == 12 && out[0] == 7, "whole number 0");
 }
 
 /* Two entries behind one another, the second of which is sound in no field. */
@@ -466,17 +481,12 @@ static void check_sff_parts(const struct jt_sff_read *read, const char *what) {
 
 static void check_sff_read(void) {
     uint8_t file[88];
-    uint64_t out[3] = {7, 7, 7};
     size_t len = make_sff_file(file, (const uint8_t[]){0, 0}, (const uint8_t[]){1, 1, 1});
     check(jt_sff_judge(file, len).extent == 88, "judging one read");
     struct jt_sff_read read = jt_sff_read(file, len, 1);
     check_sff_parts(&read, "read");
     check(read.quality_left == 2 && read.quality_right == 0, "quality clips");
     check(read.first == 2 && read.last == 3 && read.insert_start == 76 && read.insert_length == 2, "insert");
-    struct jt_sff_read same = jt_sff_read_at(file, len, 40);
-    check(memcmp(&read, &same, sizeof read) == 0, "read at a place");
-    jt_listed places = jt_sff_places(file, len, 1, out, 3);
-    check(places.refusal == 0 && places.count == 1 && out[0] == 40 && out[1] == 7 && out[2] == 7, "places");
     jt_flow flow = jt_sff_flow_of_base(file, len, 1, 3);
     check(flow.refusal == 0 && flow.flow == 3, "flow of a base");
     make_sff_file(file, (const uint8_t[]){3, 1}, (const uint8_t[]){2, 0, 2});
@@ -487,9 +497,64 @@ static void check_sff_read(void) {
     check(jt_sff_flow_of_base(file, len, 1, 3).flow == 4, "flow of a base behind a step of 0");
 }
 
+/* W8 with a second read like the first, but for a clip above its bases. */
+static size_t make_two_reads(uint8_t *file) {
+    size_t len = make_sff_file(file, (const uint8_t[]){0, 0}, (const uint8_t[]){1, 1, 1});
+    memcpy(file + len, file + 40, 48);
+    file[len + 15] = 4;
+    file[23] = 2;
+    return len + 48;
+}
+
+/* The reads from this number on, of those that stand in the file: these were written, and nothing behind them. */
+static void check_reads(const uint8_t *file, size_t len, uint64_t first, size_t room, uint64_t count) {
+    uint64_t out[2 * JT_READ_NUMBERS + 3];
+    memset(out, 0xA5, sizeof out);
+    jt_listed listed = jt_sff_reads(file, len, first, out, room);
+    check(listed.refusal == 0 && listed.count == count, "reads");
+    for (uint64_t i = 0; i < count; i++) {
+        struct jt_sff_read read = jt_sff_read(file, len, first + i);
+        check(memcmp(out + JT_READ_NUMBERS * i, &read, sizeof read) == 0, "a read among others");
+    }
+    check(untouched((const uint8_t *)out, count * sizeof(struct jt_sff_read), sizeof out), "the output behind the reads");
+}
+
+static void check_sff_reads(void) {
+    uint8_t file[136];
+    size_t len = make_two_reads(file);
+    check(jt_sff_read(file, len, 1).refusal == 0 && jt_sff_read(file, len, 2).refusal == 11, "a good read and a bad one");
+    check_reads(file, len, 1, JT_READ_NUMBERS, 1);
+    check_reads(file, len, 1, 2 * JT_READ_NUMBERS - 1, 1);
+    check_reads(file, len, 1, 2 * JT_READ_NUMBERS, 2);
+    check_reads(file, len, 1, 2 * JT_READ_NUMBERS + 3, 2);
+    check_reads(file, len, 2, 2 * JT_READ_NUMBERS, 1);
+    check_reads(file, len - 1, 1, JT_READ_NUMBERS, 1);
+}
+
+/* The call is refused so, and nothing was written. */
+static void check_no_reads(const uint8_t *file, size_t len, uint64_t first, size_t room, uint64_t refusal) {
+    uint64_t out[2 * JT_READ_NUMBERS];
+    memset(out, 0xA5, sizeof out);
+    jt_listed listed = jt_sff_reads(file, len, first, out, room);
+    check(listed.refusal == refusal && listed.count == 0, "refused reads");
+    check(untouched((const uint8_t *)out, 0, sizeof out), "the output of refused reads");
+}
+
+static void check_sff_reads_refusals(void) {
+    uint8_t file[136];
+    size_t len = make_two_reads(file);
+    check_no_reads(file, len, 0, 0, 7);
+    check_no_reads(file, len, 3, 2 * JT_READ_NUMBERS, 7);
+    check_no_reads(file, len - 1, 1, JT_READ_NUMBERS - 1, 13);
+    check_no_reads(file, len - 1, 1, 2 * JT_READ_NUMBERS, 1);
+    check_no_reads(file, len - 1, 2, JT_READ_NUMBERS, 1);
+    check_no_reads(file, 39, 0, 0, 1);
+    check(jt_sff_reads(file, len, 1, NULL, 0).refusal == 13, "reads with no room");
+    check(jt_sff_reads(NULL, 0, 1, NULL, 0).refusal == 1, "reads of no bytes");
+}
+
 static void check_sff_refusals(void) {
     uint8_t file[88];
-    uint64_t out[1] = {7};
     size_t len = make_sff_file(file, (const uint8_t[]){0, 4}, (const uint8_t[]){1, 1, 1});
     jt_verdict cut = jt_sff_judge(file, len - 1);
     check(cut.refusal == 1 && cut.entry == 1 && cut.extent == 0, "judging a cut read");
@@ -497,9 +562,6 @@ static void check_sff_refusals(void) {
     struct jt_sff_read read = jt_sff_read(file, len, 1);
     check(read.refusal == 11 && read.start == 0 && read.letters_start == 0, "a clip above the bases");
     check(jt_sff_read(file, len, 0).refusal == 7 && jt_sff_read(file, len, 2).refusal == 7, "a read that is not there");
-    check(jt_sff_read_at(file, len, UINT64_MAX).refusal == 1, "a place past the end");
-    check(jt_sff_places(file, len, 1, NULL, 0).refusal == 13, "places with no room");
-    check(jt_sff_places(file, len, 2, out, 1).refusal == 7 && out[0] == 7, "places past the reads");
     make_sff_file(file, (const uint8_t[]){0, 0}, (const uint8_t[]){1, 1, 1});
     check(jt_sff_flow_of_base(file, len, 1, 4).refusal == 12, "a base that is not there");
     make_sff_file(file, (const uint8_t[]){0, 0}, (const uint8_t[]){0, 1, 1});
@@ -598,7 +660,6 @@ static void check_gtc_snp(const jt_snp *snp, uint64_t code, uint64_t ploidy, uin
 
 static void check_gtc_records(void) {
     uint8_t file[256];
-    uint64_t out[28];
     size_t len = make_gtc_file(file, (const uint8_t[]){13, 45, 4});
     jt_verdict verdict = jt_gtc_judge(file, len);
     check(verdict.refusal == 0 && verdict.extent == len && verdict.unjudged == 1, "judging three SNPs");
@@ -611,30 +672,46 @@ static void check_gtc_records(void) {
     check_gtc_snp(&snps[2], 4, 0, 0);
     check(snps[0].call_1 == 'A' && snps[0].call_2 == 'C' && snps[2].call_1 == '-', "base calls");
     check(snps[1].score_bits == 0xFFC00002 && snps[1].x == 0xFFFE && snps[1].y == 1, "score and intensities");
-    memset(out, 7, sizeof out);
-    jt_listed listed = jt_gtc_snps(file, len, 1, out, 28);
-    check(listed.refusal == 0 && listed.count == 3, "all SNPs");
-    for (int i = 0; i < 3; i++) {
-        check(memcmp(out + JT_SNP_NUMBERS * i, &snps[i].code, 64) == 0, "a record among all");
+}
+
+/* The SNPs from this number on, of those that stand in the file: these were written, and nothing behind them. */
+static void check_snps(const uint8_t *file, size_t len, uint64_t first, size_t room, uint64_t count) {
+    uint64_t out[3 * JT_SNP_NUMBERS + 3];
+    memset(out, 0xA5, sizeof out);
+    jt_listed listed = jt_gtc_snps(file, len, first, out, room);
+    check(listed.refusal == 0 && listed.count == count, "SNPs");
+    for (uint64_t i = 0; i < count; i++) {
+        jt_snp snp = jt_gtc_snp(file, len, first + i);
+        check(memcmp(out + JT_SNP_NUMBERS * i, &snp, sizeof snp) == 0, "a SNP among others");
     }
-    check(out[24] == 0x0707070707070707 && out[27] == 0x0707070707070707, "the output behind the records");
-    listed = jt_gtc_snps(file, len, 3, out, JT_SNP_NUMBERS);
-    check(listed.refusal == 0 && listed.count == 1 && memcmp(out, &snps[2].code, 64) == 0, "the last SNP");
+    check(untouched((const uint8_t *)out, count * sizeof(jt_snp), sizeof out), "the output behind the SNPs");
+}
+
+static void check_gtc_snps(void) {
+    uint8_t file[256];
+    size_t len = make_gtc_file(file, (const uint8_t[]){13, 46, 4});
+    check(jt_gtc_snp(file, len, 1).refusal == 0 && jt_gtc_snp(file, len, 2).refusal == 11, "a good SNP and a bad one");
+    check_snps(file, len, 1, JT_SNP_NUMBERS, 1);
+    check_snps(file, len, 1, 3 * JT_SNP_NUMBERS - 1, 2);
+    check_snps(file, len, 1, 3 * JT_SNP_NUMBERS, 3);
+    check_snps(file, len, 1, 3 * JT_SNP_NUMBERS + 3, 3);
+    check_snps(file, len, 2, JT_SNP_NUMBERS, 1);
+    check_snps(file, len, 3, 3 * JT_SNP_NUMBERS, 1);
 }
 
 static void check_gtc_refusals(void) {
     uint8_t file[256];
-    uint64_t out[24] = {7};
+    uint64_t out[3 * JT_SNP_NUMBERS] = {7};
     size_t len = make_gtc_file(file, (const uint8_t[]){13, 45, 46});
     check(jt_gtc_judge(file, len).refusal == 0, "judging a code that stands for no genotype");
     jt_snp snp = jt_gtc_snp(file, len, 3);
     check(snp.refusal == 11 && snp.code == 0 && snp.call_1 == 0 && snp.x == 0, "a code that stands for no genotype");
     check(jt_gtc_snp(file, len, 0).refusal == 12 && jt_gtc_snp(file, len, 4).refusal == 12, "a SNP that is not there");
-    check(jt_gtc_snps(file, len, 1, out, 24).refusal == 11 && out[0] == 7, "a forbidden code among all");
-    check(jt_gtc_snps(file, len, 4, out, 24).refusal == 12 && out[0] == 7, "no SNPs left");
-    make_gtc_file(file, (const uint8_t[]){13, 45, 0});
-    check(jt_gtc_snps(file, len, 1, out, 23).refusal == 13 && out[0] == 7, "too little room for all SNPs");
+    check(jt_gtc_snps(file, len, 4, out, 3 * JT_SNP_NUMBERS).refusal == 12 && out[0] == 7, "no SNPs left");
+    check(jt_gtc_snps(file, len, 0, NULL, 0).refusal == 12, "SNP 0, and no room");
+    check(jt_gtc_snps(file, len, 1, out, JT_SNP_NUMBERS - 1).refusal == 13 && out[0] == 7, "too little room for a SNP");
     check(jt_gtc_snps(file, len, 1, NULL, 0).refusal == 13, "no room for SNPs");
+    check(jt_gtc_snps(file, 60, 1, out, 3 * JT_SNP_NUMBERS).refusal == 1 && out[0] == 7, "the SNPs of a cut file");
     check(jt_gtc_snp(file, 60, 1).refusal == 1 && jt_gtc_snp(NULL, 0, 1).refusal == 1, "a SNP of a cut file");
     jt_verdict cut = jt_gtc_judge(file, len - 1);
     check(cut.refusal == 1 && cut.entry == 7 && cut.extent == 0 && cut.unjudged == 0, "judging a cut array");
@@ -649,6 +726,7 @@ static void check_gtc_normalising(void) {
     check(t.scale_x == 0.5f && t.scale_y == 4 && t.shear == 0.25f && t.theta == 6, "scales, shear and theta");
     check(t.reserved_1 == 7 && t.reserved_2 == 8 && t.reserved_3 == 9, "first reserved floats");
     check(t.reserved_4 == 10 && t.reserved_5 == 11 && t.reserved_6 == 12, "last reserved floats");
+    check(answer.start == len - 52 && file[answer.start] == 0xFD && file[len - 1] == 0x41, "a transformation's bytes");
     jt_point point = jt_gtc_normalise(t, 101, 42, 0.5f, 2);
     check(point.x == 350 && point.y == -45, "normalising");
     point = jt_gtc_normalise(t, 65535, 0, 1, 0);
@@ -659,7 +737,8 @@ static void check_gtc_normalising(void) {
     check(point.x != point.x && point.y != point.y, "normalising to NaNs");
     static const jt_transformation zeros;
     answer = jt_gtc_transformation(file, len, 2);
-    check(answer.refusal == 12 && memcmp(&answer.value, &zeros, sizeof zeros) == 0, "a transformation that is not there");
+    check(answer.refusal == 12 && answer.start == 0, "a transformation that is not there");
+    check(memcmp(&answer.value, &zeros, sizeof zeros) == 0, "the fields of a transformation that is not there");
     check(jt_gtc_transformation(file, len, 0).refusal == 12, "transformation 0");
     check(jt_gtc_transformation(NULL, 0, 1).refusal == 1, "a transformation of no bytes");
 }
@@ -680,10 +759,13 @@ int main(void) {
     check_sff_header();
     check_sff_read();
     check_sff_refusals();
+    check_sff_reads();
+    check_sff_reads_refusals();
     check_sff_writing();
     check_sff_writing_refusals();
     check_gtc_table();
     check_gtc_records();
+    check_gtc_snps();
     check_gtc_refusals();
     check_gtc_normalising();
     printf("%d passed, %d failed\n", passed, failed);

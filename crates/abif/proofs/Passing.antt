@@ -33,14 +33,14 @@ unfolding opening
 opening-passes s d h = simp (answer-bind, h, answer-done)
 
 -- the checks of an entry
-module _ (s : List ℕ) (d : Entry) (few : d .«element_count» < 0x80000000) (small : d .«data_size» < 0x80000000) where
+module _ (s : List ℕ) (d : Entry) (narrow : d .«element_size» < 0x8000) (few : d .«element_count» < 0x80000000) (small : d .«data_size» < 0x80000000) where
   pub listed-passes : (w : ℕ) → d .«element_size» ≡ w → d .«data_size» ≡ w * d .«element_count» → answer (listedCheck w d) s ≡ ok tt
   unfolding listedCheck holds
-  listed-passes w a b = simp (answer-bind, answer-must, eq-eqb _ _ a, lt-leb _ _ few, lt-leb _ _ small, eq-eqb _ _ b)
+  listed-passes w a b = simp (answer-bind, answer-must, lt-leb _ _ narrow, eq-eqb _ _ a, lt-leb _ _ few, lt-leb _ _ small, eq-eqb _ _ b)
 
-  pub raw-passes : d .«element_size» < 0x8000 → answer (rawCheck d) s ≡ ok tt
+  pub raw-passes : answer (rawCheck d) s ≡ ok tt
   unfolding rawCheck holds
-  raw-passes a = simp (answer-bind, answer-must, lt-leb _ _ a, lt-leb _ _ few, lt-leb _ _ small)
+  raw-passes = simp (answer-bind, answer-must, lt-leb _ _ narrow, lt-leb _ _ few, lt-leb _ _ small)
 
 -- the end of an entry's data, 0 for data in the entry
 abbrev pub dataEnd : Entry → ℕ

@@ -1,24 +1,19 @@
 -- ABIF: the text of an item.
 -- Assumes nothing.
-use Prim.Native.Nat.{ℕ, zero, suc, _+_, _-_}
+use Prim.Native.Nat.{ℕ, _+_, _-_}
 use mathlib.Core.List.{List, [], _∷_}
-use mathlib.Core.Bool.{Bool, true, false, not}
+use mathlib.Core.Bool.{not}
 use lib.Dec.{leb, eqb}
-use lib.ListN.{getD}
 use Rattle.reading.specs.Choice.{pick, among}
 use Rattle.reading.specs.declared.check.Rule.the-variants.{Exactly, EqualTo}
 use Rattle.reading.specs.Check.{Check, Answer, ok, refused, done, must, provided, _>>=_, _>>_}
 use Rattle.reading.specs.Part.{Span}
+use Rattle.contents.specs.Text.{zeroAmong}
 use Rattle.abif.specs.declared.text.Text.{Text}
 use Rattle.abif.specs.declared.text.Text.the-variants.{At, Refused}
 use Rattle.abif.specs.declared.lookup.ItemData.{ItemData}
 use Rattle.abif.specs.Lookup.{lookingUp}
 use Rattle.abif.specs.Element.{byteField, itemBytes}
-
--- one of the n bytes from place p on is zero
-unfoldable pub zeroAmong : List ℕ → ℕ → ℕ → Bool
-zeroAmong l p zero = false
-zeroAmong l p (suc n) = pick (eqb (getD l p 0) 0) true (zeroAmong l (p + 1) n)
 
 -- a pString has a first byte equal to data size - 1, which the text lacks
 unfoldable pub pString : ItemData → List ℕ → Check Span

@@ -134,6 +134,13 @@ fn listed_tests(w: u16, d: Entry) -> Tested
         sign: true,
         value: d.data_size as u64,
     };
+    if 0x8000 <= d.element_size {
+        return Tested::Failed(Test {
+            field: width,
+            rule: Rule::Exactly(w as u64),
+            number: 9,
+        });
+    }
     if d.element_size != w {
         return Tested::Failed(Test {
             field: width,

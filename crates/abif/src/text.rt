@@ -2,47 +2,21 @@
 use crate::lookup::Found;
 use crate::lookup::ItemData;
 use crate::lookup::lookup;
+use contents::text::has_zero;
 use reading::number::byte;
 use reading::part::part;
 ghost use mathlib.Core.Path.{_≡_};
-ghost use mathlib.Core.Bool.{true};
 ghost use mathlib.Core.List.{List};
-ghost use lib.Dec.{eqb};
-ghost use Rattle.reading.specs.Choice.{pick};
 ghost use Prim.Native.Nat.{ℕ, _+_, _≤_};
 ghost use lib.ListN.{length};
 ghost use Rattle.reading.specs.Check.{answer};
 ghost use Rattle.reading.specs.Part.{shown, handedBack};
-ghost use Rattle.abif.specs.Text.{zeroAmong, pString, cString, textOf, textReading, text};
+ghost use Rattle.abif.specs.Text.{pString, cString, textOf, textReading, text};
 
 // Where the text stands, or the refusal.
 pub enum Text {
     At { start: usize, length: usize },
     Refused(u8),
-}
-
-// A zero was found before, or the byte is one.
-fn zero_or(found: bool, b: u8) -> bool
-    ensures { λ r. ⌜ r ≡ pick (eqb b 0) true found ⌝ }
-{
-    if b == 0 {
-        return true;
-    }
-    found
-}
-
-// One of the bytes is zero. All of them are looked at, with no way out in between, so that the machine takes many at once.
-pub fn has_zero(l: &[u8]) -> bool
-    ensures { λ r. ⌜ r ≡ zeroAmong (now (l .entry)) 0 (length (now (l .entry))) ⌝ }
-{
-    let n = l.len();
-    let mut found = false;
-    let mut i = 0;
-    while i < n {
-        found = zero_or(found, l[i]);
-        i += 1;
-    }
-    found
 }
 
 fn p_string(l: &[u8], q: ItemData) -> Text

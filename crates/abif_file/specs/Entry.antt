@@ -3,25 +3,27 @@
 use Prim.Native.Nat.{ℕ, _+_, _-_, _*_}
 use mathlib.Core.List.{List}
 use Rattle.reading.specs.Choice.{isNumberOf}
-use Rattle.reading.specs.Number.{be, signed}
-use Rattle.reading.specs.Check.{Check, Answer, ok, refused, done, provided, _>>=_, _>>_}
+use Rattle.reading.specs.Number.{be}
+use Rattle.reading.specs.Check.{Check, Answer, ok, refused, signedField, stood, done, provided, _>>=_, _>>_}
 use Rattle.abif_file.specs.declared.entry.RawEntry.{RawEntry}
 use Rattle.abif_file.specs.declared.entry.EntryFound.{EntryFound}
 use Rattle.abif_file.specs.declared.entry.EntryFound.the-variants.{At, Refused}
+use Rattle.abif.specs.Entry.{entryOf, number, elementType, elementSize, elementCount, dataSize, dataOffset}
 use Rattle.abif.specs.Directory.{directory}
 
--- the fields of the entry at place p, signed where the format is
+-- what stands in the fields of the entry at place p; the data handle, which no check looks at, stands behind them
 unfoldable pub rawEntry : List ℕ → ℕ → RawEntry
 rawEntry h p =
+    let d = entryOf h p in
     record {
-      name = be 4 h p;
-      number = signed 4 (be 4 h (p + 4));
-      «element_type» = signed 2 (be 2 h (p + 8));
-      «element_size» = signed 2 (be 2 h (p + 10));
-      «element_count» = signed 4 (be 4 h (p + 12));
-      «data_size» = signed 4 (be 4 h (p + 16));
-      «data_offset» = signed 4 (be 4 h (p + 20));
-      «data_handle» = signed 4 (be 4 h (p + 24));
+      name = d .name;
+      number = stood (number d);
+      «element_type» = stood (elementType d);
+      «element_size» = stood (elementSize d);
+      «element_count» = stood (elementCount d);
+      «data_size» = stood (dataSize d);
+      «data_offset» = stood (dataOffset d);
+      «data_handle» = stood (signedField 4 (p + 24) (be 4 h (p + 24)));
     }
 
 -- entry i of the directory, from one: the header and directory checks, then no such entry 7

@@ -1,3 +1,4 @@
 pub mod Order
 pub mod Back
 pub mod Trip
+pub mod Refused

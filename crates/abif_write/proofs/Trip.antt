@@ -74,11 +74,11 @@ part-bytes b d h i = go (leb (suc i) (d .size)) refl
         rw (List·getD-eq-default (part b d) 0 z) (omega arith)
 
 -- the sizes of an item's entry pass
-sizes-pass : (s : List ℕ) (e : Entry) (k : ElementType) (c : ℕ) → e .«element_count» < 0x80000000 → e .«data_size» < 0x80000000 → isTaken k c ≡ true → e .«element_size» ≡ writtenSize k → e .«data_size» ≡ writtenSize k * e .«element_count» → answer (sizesCheck k e) s ≡ ok tt
+sizes-pass : (s : List ℕ) (e : Entry) (k : ElementType) (c : ℕ) → e .«element_size» < 0x8000 → e .«element_count» < 0x80000000 → e .«data_size» < 0x80000000 → isTaken k c ≡ true → e .«element_size» ≡ writtenSize k → e .«data_size» ≡ writtenSize k * e .«element_count» → answer (sizesCheck k e) s ≡ ok tt
 unfolding sizesCheck writtenSize
-sizes-pass s e (Listed w) c few small t a b = listed-passes s e few small w a b
-sizes-pass s e Raw c few small t a b = raw-passes s e few small (omega arith)
-sizes-pass s e Unknown c few small t a b = no t
+sizes-pass s e (Listed w) c narrow few small t a b = listed-passes s e narrow few small w a b
+sizes-pass s e Raw c narrow few small t a b = raw-passes s e narrow few small
+sizes-pass s e Unknown c narrow few small t a b = no t
 
 -- the entry, at place p, of item d with data at place x
 module _ (b : List ℕ) (d : Item) (p x : ℕ) where
@@ -131,7 +131,7 @@ module _ (b : List ℕ) (d : Item) (p x : ℕ) where
       (λ h. let z : entryFor b d p x .«data_offset» ≡ x = entry-apart h in
       let y : x + d .size ≤ length s = rw (lt-leb (d .size) 4 h) at r in
       (rw z l, rw z m, rw z y))
-      (sizes-pass s (entryFor b d p x) (typeOf (d .«element_type»)) (d .«element_type») (q .few) (q .small) (q .taken) refl (q .sized))
+      (sizes-pass s (entryFor b d p x) (typeOf (d .«element_type»)) (d .«element_type») (size-small (d .«element_type»)) (q .few) (q .small) (q .taken) refl (q .sized))
 
   -- its data end within what they take
   entry-end : (y : ℕ) → x + apart (d .size) ≤ y → dataEnd (entryFor b d p x) ≤ y

@@ -17,7 +17,7 @@ use Rattle.abif.specs.Entry.{typeOf}
 use Rattle.abif_write.specs.declared.item.Item.{Item}
 use Rattle.abif_write.specs.declared.item.Passing.{Passing}
 use Rattle.abif_write.specs.declared.item.Passing.the-variants.{Pass, Fail}
-use Rattle.abif_write.specs.Contents.{contentsCheck}
+use Rattle.abif_write.specs.ItemContents.{contentsCheck}
 
 -- item i of the lent records; its type by its 16 bits
 unfoldable pub given : List ℕ → List ℤ → List ℤ → List ℕ → List ℕ → List ℕ → ℕ → Item

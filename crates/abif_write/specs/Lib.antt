@@ -1,4 +1,4 @@
-pub mod Contents
+pub mod ItemContents
 pub mod Item
 pub mod Entry
 pub mod File

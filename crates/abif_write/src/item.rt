@@ -1,5 +1,5 @@
 // The items that the lent records name, and their checks.
-use crate::contents::contents_hold;
+use crate::item_contents::contents_hold;
 use abif::entry::ElementType;
 use abif::entry::type_of;
 use reading::number::bits16;

@@ -1,2 +1,3 @@
-// Rules of contents that readers and writers share. What these functions are lent is no file.
+// Rules of contents that readers and writers share. They are lent bytes of an item or of a read, and no file.
 pub mod steps;
+pub mod text;

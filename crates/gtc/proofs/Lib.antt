@@ -1,3 +1,3 @@
 pub mod Reach
 pub mod Arrays
-pub mod Refusing
+pub mod Refused

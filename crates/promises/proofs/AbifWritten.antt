@@ -1,24 +1,16 @@
 -- The round trip of ABIF.
 -- Assumes nothing.
 use Prim.Native.Nat.{ℕ}
-use mathlib.Core.Path.{refl, subst}
+use mathlib.Core.Path.{subst}
 use mathlib.Core.List.{List}
 use native.Mathlib.Omega.{arith}
 use lib.IntN.{ℤ}
 use lib.ListN.{length}
-use Rattle.reading.specs.Number.{be, bits}
-use Rattle.reading.specs.Check.{answer}
-use Rattle.writing.specs.Put.{digits}
-use Rattle.abif.specs.Entry.{typeOf}
-use Rattle.abif_write.specs.Contents.{contentsCheck}
-use Rattle.abif_write.specs.Item.{given, writtenSize, countCheck, itemCheck, itemsCheck}
-use Rattle.abif_write.specs.Entry.{tagBytes, dataBytes, entryBytes, tdir, headerBytes, entryFor}
-use Rattle.abif_write.specs.File.{datas, entries, total, file, fileCheck}
-use Rattle.abif_write.specs.Write.{writing}
+use Rattle.reading.specs.Number.{bits}
+use Rattle.abif_write.specs.Item.{given}
 use Rattle.abif_write.proofs.write.Laws.{made}
 use Rattle.abif_write.proofs.Trip.{Lent, bits-fit, trip-whole, trip-opens, trip-kept, trip-only}
-use Rattle.promises.specs.Samples.{header, twoShorts}
-use Rattle.promises.specs.AbifWritten.{FitsItsTypes, ReadsBack, AbifReadsBack, WritesW2}
+use Rattle.promises.specs.AbifWritten.{FitsItsTypes, ReadsBack, AbifReadsBack}
 
 lent-fits : (names : List ℕ) (numbers types : List ℤ) (counts starts lengths b : List ℕ) → FitsItsTypes names numbers types b → Lent (given names numbers types counts starts lengths) b
 unfolding given
@@ -40,7 +32,3 @@ abif-reads-back names numbers types counts starts lengths b room file f h =
           record { found = r .found; answers = r .answers; same-type = r .of-type; same-count = r .of-count; same-bytes = r .of-bytes };
       only = trip-only g b n l (m .checked) (m .few) (m .short);
     })
-
-pub writes-w2 : WritesW2
-unfolding writing fileCheck file datas entries total headerBytes tdir entryFor entryBytes tagBytes dataBytes itemsCheck itemCheck countCheck contentsCheck writtenSize given typeOf digits be bits answer header twoShorts
-writes-w2 = refl

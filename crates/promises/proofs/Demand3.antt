@@ -1,6 +1,7 @@
 -- Demand 3, whole.
 -- Assumes nothing.
-use Rattle.promises.specs.Demand3.{ABIF, SFF, GTC, Demand3}
+use Rattle.promises.specs.Formats.{ABIF, SFF, GTC}
+use Rattle.promises.specs.Demand3.{Demand3}
 use Rattle.promises.proofs.Abif.{abif-holds}
 use Rattle.promises.proofs.Sff.{sff-holds}
 use Rattle.promises.proofs.Gtc.{gtc-holds}

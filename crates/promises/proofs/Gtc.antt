@@ -1,19 +1,23 @@
--- Demand 3 for GTC, and the bulk call's records.
+-- Demands 1 and 3 for GTC.
 -- Assumes nothing.
 use Prim.Native.Nat.{ℕ, _+_, _≤_}
-use mathlib.Core.Path.{_≡_}
+use mathlib.Core.Path.{_≡_, refl}
 use mathlib.Core.List.{List}
 use native.Mathlib.Omega.{arith}
 use lib.ListN.{length}
 use Rattle.reading.specs.Check.{ok, answer, reach}
+use Rattle.reading.specs.Part.{Part}
+use Rattle.reading.proofs.Refused.{Refuses}
 use Rattle.gtc.specs.Judge.{Extent, judging}
 use Rattle.gtc.proofs.Reach as Reach
+use Rattle.gtc.proofs.Refused as Refused
 use Rattle.gtc.proofs.lookup.Laws.{lookup-within}
-use Rattle.gtc.proofs.snps.Numbered.{records-of}
 use Rattle.gtc.proofs.transformation.Laws.{reading-within}
+use Rattle.promises.specs.Demand1.{Ends}
 use Rattle.promises.specs.Demand3.{Holds}
-use Rattle.promises.specs.Gtc.{Call, judge, lookup, snp, snps, transformation, Answered, checks, span, gtc, RecordsAreSnps}
+use Rattle.promises.specs.Gtc.{Call, judge, lookup, snp, snps, transformation, Answered, checks, span, gtc}
 use Rattle.promises.proofs.Holds.{holds}
+use Rattle.promises.proofs.Ends.{AtNone, Anywhere, Asked, ends, at-none, anywhere}
 
 fits : (c : Call) (s : List ℕ) (v : Answered c) → answer (checks c) s ≡ ok v → span c v .start + span c v .size ≤ length s
 fits judge s v e = omega arith
@@ -30,9 +34,14 @@ under (snps i out) s v w = Reach.snps-under i (length out) s v w
 under (transformation k) s v w = Reach.transformation-under k s v w
 
 pub gtc-holds : Holds gtc
-gtc-holds = holds gtc (record { fits = fits; extent = Reach.extent; under = λ c s v w _. under c s v w })
+gtc-holds = holds gtc (record { fits = fits; extent = Reach.extent; under = under })
 
-pub records-are-snps : RecordsAreSnps
-records-are-snps s first room rs w =
-    let g = records-of s first room rs w in
-    record { each = g .0; all = g .1 }
+told : (c : Call) (s : List ℕ) → Refuses (Asked gtc c) (checks c) s
+told judge s = anywhere gtc s (Refused.judging-refuses Anywhere s (λ _. refl) refl refl refl refl (λ _. refl) (λ _. refl) (λ _. refl) (λ _. refl))
+told (lookup k) s = at-none gtc (lookup k) s (Refused.lookup-refuses AtNone s (refl, refl) (refl, refl) (refl, refl) (refl, refl) (refl, refl) (refl, refl) (refl, refl) (refl, refl) (refl, refl) (refl, refl) k)
+told (snp i) s = at-none gtc (snp i) s (Refused.snp-refuses AtNone s (refl, refl) (refl, refl) (refl, refl) (refl, refl) (refl, refl) (refl, refl) (refl, refl) (refl, refl) (refl, refl) (refl, refl) (refl, refl) (refl, refl) i)
+told (snps i out) s = at-none gtc (snps i out) s (Refused.snps-refuses AtNone s (refl, refl) (refl, refl) (refl, refl) (refl, refl) (refl, refl) (refl, refl) (refl, refl) (refl, refl) (refl, refl) (refl, refl) (refl, refl) i (length out) (λ _. (refl, refl)))
+told (transformation k) s = at-none gtc (transformation k) s (Refused.transformation-refuses AtNone s (refl, refl) (refl, refl) (refl, refl) (refl, refl) (refl, refl) (refl, refl) (refl, refl) (refl, refl) (refl, refl) (refl, refl) (refl, refl) k)
+
+pub gtc-ends : (c : Call) (file : Part) → Ends gtc c file
+gtc-ends = ends gtc told

@@ -13,13 +13,14 @@ use Rattle.reading.specs.Lent.{filled}
 use Rattle.reading.proofs.Cut.{answer-same, cuts, steady}
 use Rattle.reading.proofs.Parts.{handed-kept}
 use Rattle.promises.specs.Format.{Format}
-use Rattle.promises.specs.Demand3.{Seen, seen, CutShort, Holds}
+use Rattle.promises.specs.Seen.{Seen, seen}
+use Rattle.promises.specs.Demand3.{CutShort, Holds}
 
 -- what is shown of a format: the parts handed back lie within the file, judging needs just the extent, and no other call needs more
 pub record Needs (f : Format) : Type 0 where
   pub fits : (c : f .Call) (s : List ℕ) (v : f .Value c) → answer (f .checks c) s ≡ ok v → f .span c v .start + f .span c v .size ≤ length s
   pub extent : (s : List ℕ) (v : f .Value (f .judging)) → answer (f .checks (f .judging)) s ≡ ok v → reach (f .checks (f .judging)) s ≡ f .extent v
-  pub under : (c : f .Call) (s : List ℕ) (v : f .Value (f .judging)) → answer (f .checks (f .judging)) s ≡ ok v → f .asks c s → reach (f .checks c) s ≤ f .extent v
+  pub under : (c : f .Call) (s : List ℕ) (v : f .Value (f .judging)) → answer (f .checks (f .judging)) s ≡ ok v → reach (f .checks c) s ≤ f .extent v
 
 module _ (f : Format) (k : Needs f) where
   -- what a call shows of a file, from its answer
@@ -47,7 +48,7 @@ module _ (f : Format) (k : Needs f) where
         cut = λ c file n. either c file n (steady (f .checks c) (file .bytes) n);
         within = λ file v w. subst (λ (x : ℕ). x ≤ length (file .bytes)) (k .extent (file .bytes) v w) (cuts (f .checks (f .judging)) (file .bytes) v w .within);
         below = λ file v w n h. short (f .judging) (cutTo n file) _ (cuts (f .checks (f .judging)) (file .bytes) v w .cut n (subst (λ (x : ℕ). n < x) (sym (k .extent (file .bytes) v w)) h)) refl;
-        from = λ file v w n h c a. seen-same c file n (answer-same (f .checks c) n (file .bytes) (omega (arith, k .under c (file .bytes) v w a)));
+        from = λ file v w n h c. seen-same c file n (answer-same (f .checks c) n (file .bytes) (omega (arith, k .under c (file .bytes) v w)));
       }
     where
       either : (c : f .Call) (file : Part) (n : ℕ) → Refused1 (answer (f .checks c) (take n (file .bytes))) ⊎ (answer (f .checks c) (take n (file .bytes)) ≡ answer (f .checks c) (file .bytes)) → CutShort f c (cutTo n file) ⊎ (seen f c (cutTo n file) ≡ seen f c file)

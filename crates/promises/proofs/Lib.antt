@@ -1,8 +1,12 @@
 pub mod Holds
+pub mod Ends
 pub mod Abif
 pub mod Sff
 pub mod Gtc
+pub mod Writing
+pub mod Demand1
 pub mod Demand3
+pub mod Bulk
 pub mod Samples
 pub mod AbifWritten
 pub mod SffWritten

@@ -15,8 +15,8 @@ use Rattle.sff.specs.Read.{readHeaderOf, present, framing}
 use Rattle.sff.specs.Walk.{skipIndex, nextRead, walk, walkPast, beforeRead}
 use Rattle.sff.specs.Judge as Judge
 use Rattle.sff.specs.Clips.{clipsCheck}
-use Rattle.sff.specs.Steps.{sumsWithin, stepsCheck}
-use Rattle.sff.specs.Lookup.{readOf, readContents, readFrom, readIn, readReading, readAtReading}
+use Rattle.contents.specs.Steps.{sumsWithin, stepsCheck}
+use Rattle.sff.specs.Lookup.{readOf, readContents, readFrom, readIn, readReading}
 use Rattle.gtc.specs.Table as Table
 use Rattle.gtc.specs.Entry as Entry
 use Rattle.gtc.specs.Item.{listingIn, listingOf, arrayCount, elementsOf, snpCheck, shapeCheck, shapedCheck, itemCheck}
@@ -24,12 +24,8 @@ use Rattle.gtc.specs.Judge as Items
 use Rattle.gtc.specs.Lookup as Ids
 use Rattle.gtc.specs.Genotype.{lettersFrom, meaning, decoding}
 use Rattle.gtc.specs.Snp.{callArrays, intensityArrays, snpArrays, snpBytes, isBaseCall, snpAt, snpOf, snpReading}
-use Rattle.promises.specs.Samples.{twoShorts, threeShorts, monthThirteen, sffHeader, threeBases, noEntries, threeSnps, threeCodes, table, behindTheExtent, AllHold}
+use Rattle.promises.specs.Samples.{twoShorts, threeShorts, monthThirteen, sffHeader, threeBases, noEntries, threeSnps, threeCodes, table, AllHold}
 
 pub samples : AllHold table
-unfolding answer be le signed firstWith oneWith inOrder entryOf hasTag headerCheck boundsCheck directory opening typeOf listedCheck rawCheck sizesCheck placeCheck entryCheck judgeEntry judging dataOf itemOf lookupIn lookingUp wholeAt dateAt timeAt valueAt elementOf elementReading padding padded Header.headerOf Header.markCheck Header.lengthCheck Header.indexCheck Header.header readHeaderOf present framing skipIndex nextRead walk walkPast beforeRead Judge.ending Judge.judgingReads Judge.judging clipsCheck sumsWithin stepsCheck readOf readContents readFrom readIn readReading Table.markCheck Table.countCheck Table.table Entry.entryOf Entry.hasId Entry.entryWith listingIn listingOf arrayCount elementsOf snpCheck shapeCheck shapedCheck itemCheck Items.judgeEntry Items.unjudgedAmong Items.judgeTable Items.judging Ids.lookupListed Ids.lookupIn Ids.lookingUp lettersFrom meaning decoding callArrays intensityArrays snpArrays snpBytes isBaseCall snpAt snpOf snpReading twoShorts threeShorts monthThirteen sffHeader threeBases noEntries threeSnps threeCodes
+unfolding answer be le signed firstWith oneWith inOrder entryOf hasTag headerCheck boundsCheck directory opening typeOf listedCheck rawCheck sizesCheck placeCheck entryCheck judgeEntry judging dataOf itemOf lookupIn lookingUp wholeAt dateAt timeAt valueAt elementOf elementReading padding padded Header.headerOf Header.markCheck Header.lengthCheck Header.indexCheck Header.header readHeaderOf present framing skipIndex nextRead walk walkPast beforeRead Judge.ending Judge.judgingReads Judge.judging clipsCheck sumsWithin stepsCheck readOf readContents readFrom readIn readReading Table.markCheck Table.countCheck Table.table Entry.entryOf Entry.hasId Entry.entryWith listingIn listingOf arrayCount elementsOf snpCheck shapeCheck shapedCheck itemCheck Items.judgeAs Items.judgeEntry Items.unjudgedAmong Items.judgeTable Items.judging Ids.storedAs Ids.lookupListed Ids.lookupIn Ids.lookingUp lettersFrom meaning decoding callArrays intensityArrays snpArrays snpBytes isBaseCall snpAt snpOf snpReading twoShorts threeShorts monthThirteen sffHeader threeBases noEntries threeSnps threeCodes
 samples = (refl, (refl, (refl, (refl, (refl, (refl, (refl, (refl, (refl, (refl, (refl, (refl, (refl, (refl, (refl, (refl, (refl, (refl, (refl, (refl, tt))))))))))))))))))))
-
-pub behind-the-extent : AllHold behindTheExtent
-unfolding answer be padding padded Header.headerOf Header.markCheck Header.lengthCheck Header.indexCheck Header.header readHeaderOf present framing skipIndex nextRead walk Judge.ending Judge.judgingReads Judge.judging clipsCheck sumsWithin stepsCheck readOf readContents readFrom readAtReading sffHeader threeBases
-behind-the-extent = (refl, (refl, (refl, tt)))

@@ -19,10 +19,10 @@ use Rattle.sff.specs.Header.{header}
 use Rattle.sff.specs.Read.{readEnd, dataStart, stepsStart, lettersStart, framing}
 use Rattle.sff.specs.Walk.{front, Passage, walk}
 use Rattle.sff.specs.Clips.{clipsCheck, firstBase, lastBase, insertFrom, insert}
-use Rattle.sff.specs.Steps.{stepsCheck}
+use Rattle.contents.specs.Steps.{stepsCheck}
 use Rattle.sff.specs.Lookup.{readOf, readFrom, readReading}
 use Rattle.sff.proofs.padding.Laws.{padded-bounds}
-use Rattle.sff.proofs.steps.Laws.{steps-window}
+use Rattle.contents.proofs.steps.Laws.{steps-window}
 use Rattle.sff.proofs.lookup.Laws.{last-below}
 use Rattle.sff.proofs.NoIndex.{framing-passes, read-from-passes, clips-any, steps-any, walk-passes, walk-start, judging-passes, number-passes, number-none, number-past}
 use Rattle.writing.specs.Put.{put}

@@ -2,7 +2,7 @@
 -- Assumes nothing.
 use Prim.Native.Nat.{ℕ, _-_, _*_, _^_, _<_}
 use mathlib.Core.Path.{_≡_}
-use mathlib.Core.List.{List, [], _∷_}
+use mathlib.Core.List.{List, []}
 use lib.IntN.{ℤ, pos}
 use lib.Signed.{mag}
 use lib.ListN.{length, take, drop, getD}
@@ -13,7 +13,6 @@ use Rattle.abif.specs.Directory.{opening}
 use Rattle.abif.specs.Judge.{judging}
 use Rattle.abif.specs.Lookup.{lookingUp}
 use Rattle.abif_write.specs.Write.{writing}
-use Rattle.promises.specs.Samples.{ABCD, twoShorts}
 
 -- what is lent fits its types: names of 32 bits, signed numbers of 32 bits, signed types of 16 bits, and bytes (`mag z` is n for n and for -1 - n)
 pub record FitsItsTypes (names : List ℕ) (numbers types : List ℤ) (b : List ℕ) : Type 0 where
@@ -44,7 +43,3 @@ pub record ReadsBack (names : List ℕ) (numbers types : List ℤ) (counts start
 -- so reads every file that the writer makes
 abbrev pub AbifReadsBack : Type 0
 AbifReadsBack = (names : List ℕ) (numbers types : List ℤ) (counts starts lengths b : List ℕ) (room : ℕ) (file : List ℕ) → FitsItsTypes names numbers types b → answer (writing names numbers types counts starts lengths b room) [] ≡ ok file → ReadsBack names numbers types counts starts lengths b file
-
--- the item of bench sample W2, in just enough room, gives that sample's bytes
-abbrev pub WritesW2 : Type 0
-WritesW2 = answer (writing (ABCD ∷ []) (pos 1 ∷ []) (pos 4 ∷ []) (2 ∷ []) (0 ∷ []) (4 ∷ []) (0x00 ∷ 0x01 ∷ 0xff ∷ 0xfe ∷ []) 156) [] ≡ ok twoShorts

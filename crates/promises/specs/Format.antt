@@ -1,4 +1,4 @@
--- The reading calls of a format, as demand 3 speaks of them.
+-- The reading calls of a format, as demands 1 and 3 speak of them.
 -- Assumes nothing.
 use Prim.Native.Nat.{ℕ}
 use mathlib.Core.List.{List}
@@ -18,8 +18,6 @@ pub record Format : Type 1 where
   pub Item : Call → Type 0
   pub lent : (c : Call) → List (Item c)
   pub writes : (c : Call) → Value c → List (Item c)
-  -- what a call has to ask for, so that the extent holds its answer: nothing, unless it is given a place in the file
-  pub asks : Call → List ℕ → Type 0
   -- judging, and the extent in what it answers
   pub judging : Call
   pub extent : Value judging → ℕ

@@ -1,33 +1,39 @@
--- The reading calls of GTC, and what the bulk call's records are.
+-- The reading calls of GTC.
 -- Assumes nothing.
-use Prim.Native.Nat.{ℕ, _+_, _-_}
-use mathlib.Core.Path.{_≡_}
-use mathlib.Core.List.{List, [], _∷_}
-use lib.ListN.{length, drop}
-use Rattle.reading.specs.Check.{Check, ok, answer}
+use Prim.Native.Nat.{ℕ}
+use mathlib.Core.List.{List, []}
+use lib.ListN.{length}
+use Rattle.reading.specs.Check.{Check, Answer}
 use Rattle.reading.specs.Part.{Span}
+use Rattle.reading.specs.Bulk.{records}
 use Rattle.gtc.specs.declared.item.ItemData.{ItemData}
 use Rattle.gtc.specs.declared.snp.Snp.{Snp}
 use Rattle.gtc.specs.Judge.{Extent, judging}
 use Rattle.gtc.specs.Lookup.{lookingUp, dataSpan}
 use Rattle.gtc.specs.Snp.{snpReading}
-use Rattle.gtc.specs.Snps.{snpsReading, allNumbers}
+use Rattle.gtc.specs.Snps.{snpsReading, snpNumbers}
 use Rattle.gtc.specs.Transformation.{Transformed, transformationReading, transformationSpan}
 use Rattle.promises.specs.Format.{Format}
 
 pub data Call : Type 0 where
+  -- gtc::judge::judge, jt_gtc_judge
   judge : Call
+  -- gtc::lookup::lookup, gtc::lookup::data_part, jt_gtc_lookup
   lookup : (id : ℕ) → Call
+  -- gtc::snp::read_snp, jt_gtc_snp
   snp : (index : ℕ) → Call
+  -- gtc::snps::read_snps, jt_gtc_snps
   -- the lent output goes in
   snps : (first : ℕ) → List ℕ → Call
+  -- gtc::transformation::read_transformation, gtc::transformation::transformation_part, jt_gtc_transformation
   transformation : (number : ℕ) → Call
 
+-- the bulk call answers what the single call does of each SNP
 abbrev pub Answered : Call → Type 0
 Answered judge = Extent
 Answered (lookup k) = ItemData
 Answered (snp i) = Snp
-Answered (snps i out) = List Snp
+Answered (snps i out) = List (Answer Snp)
 Answered (transformation k) = Transformed
 
 abbrev pub checks : (c : Call) → Check (Answered c)
@@ -60,17 +66,8 @@ abbrev pub writes : (c : Call) → Answered c → List ℕ
 writes judge v = []
 writes (lookup k) v = []
 writes (snp i) v = []
-writes (snps i out) v = allNumbers v
+writes (snps i out) v = records 9 snpNumbers v
 writes (transformation k) v = []
 
 abbrev pub gtc : Format
-gtc = record { Call = Call; Value = Answered; checks = checks; span = span; Item = λ _. ℕ; lent = lent; writes = writes; asks = λ _ _. Unit {0}; judging = judge; extent = λ v. v .extent }
-
--- Record j of the bulk call, from 0, is that of SNP first + j, and there is a record for each SNP from number `first` on.
-pub record RecordsOfSnps (s : List ℕ) (first : ℕ) (rs : List Snp) : Type 0 where
-  pub each : (j : ℕ) (r : Snp) (l : List Snp) → drop j rs ≡ r ∷ l → answer (snpReading (first + j)) s ≡ ok r
-  pub all : (q : ItemData) → answer (lookingUp 1002) s ≡ ok q → length rs ≡ q .count - (first - 1)
-
--- so it is of all records that the bulk call answers
-abbrev pub RecordsAreSnps : Type 0
-RecordsAreSnps = (s : List ℕ) (first room : ℕ) (rs : List Snp) → answer (snpsReading first room) s ≡ ok rs → RecordsOfSnps s first rs
+gtc = record { Call = Call; Value = Answered; checks = checks; span = span; Item = λ _. ℕ; lent = lent; writes = writes; judging = judge; extent = λ v. v .extent }

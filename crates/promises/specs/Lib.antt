@@ -1,8 +1,14 @@
+pub mod Refusals
 pub mod Format
+pub mod Seen
 pub mod Abif
 pub mod Sff
 pub mod Gtc
+pub mod Formats
+pub mod Writing
+pub mod Demand1
 pub mod Demand3
+pub mod Bulk
 pub mod Samples
 pub mod AbifWritten
 pub mod SffWritten

@@ -5,16 +5,13 @@ use mathlib.Core.Path.{_≡_}
 use mathlib.Core.List.{List, [], _∷_, _++_}
 use lib.IntN.{negsuc}
 use lib.ListN.{take, replicate}
-use lib.Ieee.{binary32, ofBits}
-use Rattle.reading.specs.Check.{Answer, ok, refused, answer}
+use Rattle.reading.specs.Check.{Answer, ok, refused, mapAnswer, answer}
 use Rattle.abif.specs.Element.{whole}
 use Rattle.promises.specs.Format.{Format}
 use Rattle.sff.specs.declared.lookup.Read.{Read}
 use Rattle.sff.specs.declared.lookup.ReadPart.the-variants.{Insert}
-use Rattle.promises.specs.Abif.{judge, lookup, element, abif}
-use Rattle.gtc.specs.declared.genotype.Genotype.{Genotype}
-use Rattle.gtc.specs.declared.genotype.Genotype.the-variants.{Alleles}
-use Rattle.gtc.specs.declared.snp.Snp.{Snp}
+use Rattle.promises.specs.Abif.{lookup, element, judge, of, abif}
+use Rattle.gtc.specs.Genotype.{letters}
 use Rattle.promises.specs.Sff as Sff
 use Rattle.promises.specs.Gtc as Gtc
 use Rattle.promises.specs.Gtc.{gtc}
@@ -63,15 +60,22 @@ threeSnps = 0x67 ∷ 0x74 ∷ 0x63 ∷ 0x05 ∷ 0x01 ∷ 0x00 ∷ 0x00 ∷ 0x00 
 unfoldable pub threeCodes : List ℕ
 threeCodes = 0x67 ∷ 0x74 ∷ 0x63 ∷ 0x05 ∷ 0x06 ∷ 0x00 ∷ 0x00 ∷ 0x00 ∷ 0x01 ∷ 0x00 ∷ 0x03 ∷ 0x00 ∷ 0x00 ∷ 0x00 ∷ 0xea ∷ 0x03 ∷ 0x2c ∷ 0x00 ∷ 0x00 ∷ 0x00 ∷ 0xeb ∷ 0x03 ∷ 0x33 ∷ 0x00 ∷ 0x00 ∷ 0x00 ∷ 0xec ∷ 0x03 ∷ 0x3d ∷ 0x00 ∷ 0x00 ∷ 0x00 ∷ 0xe8 ∷ 0x03 ∷ 0x4d ∷ 0x00 ∷ 0x00 ∷ 0x00 ∷ 0xe9 ∷ 0x03 ∷ 0x4d ∷ 0x00 ∷ 0x00 ∷ 0x00 ∷ 0x03 ∷ 0x00 ∷ 0x00 ∷ 0x00 ∷ 0x0d ∷ 0x2d ∷ 0x2e ∷ 0x03 ∷ 0x00 ∷ 0x00 ∷ 0x00 ∷ 0x41 ∷ 0x43 ∷ 0x2d ∷ 0x2d ∷ 0x47 ∷ 0x54 ∷ 0x03 ∷ 0x00 ∷ 0x00 ∷ 0x00 ∷ 0x00 ∷ 0x00 ∷ 0x00 ∷ 0x3f ∷ 0x00 ∷ 0x00 ∷ 0x00 ∷ 0x3f ∷ 0x00 ∷ 0x00 ∷ 0x00 ∷ 0x3f ∷ 0x03 ∷ 0x00 ∷ 0x00 ∷ 0x00 ∷ 0x01 ∷ 0x00 ∷ 0x02 ∷ 0x00 ∷ 0x03 ∷ 0x00 ∷ []
 
--- the record of a SNP of score 0.5
-abbrev pub halfScored : ℕ → Genotype → ℕ → ℕ → ℕ → Snp
-halfScored c g a b i = record { code = c; genotype = g; «call_1» = a; «call_2» = b; score = ofBits binary32 0x3f000000; «score_bits» = 0x3f000000; x = i; y = i }
-
 pub record Sample : Type 1 where
   pub format : Format
   pub file : List ℕ
   pub call : format .Call
-  pub answers : Answer (format .Value call)
+  -- what the paper tells of an answer, and what that is here
+  pub Told : Type 0
+  pub tells : format .Value call → Told
+  pub answers : Answer Told
+
+-- a sample that tells the answer itself
+abbrev pub row : (f : Format) → List ℕ → (c : f .Call) → Answer (f .Value c) → Sample
+row f s c r = record { format = f; file = s; call = c; Told = f .Value c; tells = λ v. v; answers = r }
+
+-- one that tells the letters of a SNP's genotype
+abbrev pub genotypeRow : List ℕ → ℕ → Answer (List ℕ) → Sample
+genotypeRow s i r = record { format = gtc; file = s; call = Gtc.snp i; Told = List ℕ; tells = λ v. letters (v .genotype); answers = r }
 
 abbrev pub ABCD : ℕ
 ABCD = 0x41424344
@@ -79,48 +83,40 @@ ABCD = 0x41424344
 abbrev pub table : List Sample
 table =
     -- W1
-    record { format = abif; file = []; call = judge; answers = refused 1 0 }
-    ∷ record { format = sff; file = []; call = Sff.judge; answers = refused 1 0 }
-    ∷ record { format = gtc; file = []; call = Gtc.judge; answers = refused 1 0 }
+    row abif [] judge (refused 1 0)
+    ∷ row sff [] Sff.judge (refused 1 0)
+    ∷ row gtc [] Gtc.judge (refused 1 0)
     -- W2
-    ∷ record { format = abif; file = twoShorts; call = judge; answers = ok 156 }
+    ∷ row abif twoShorts judge (ok 156)
     -- W3
-    ∷ record { format = abif; file = take 155 twoShorts; call = judge; answers = refused 1 0 }
+    ∷ row abif (take 155 twoShorts) judge (refused 1 0)
     -- W4
-    ∷ record { format = abif; file = twoShorts; call = lookup ABCD 1; answers = ok (record { start = 148; size = 4; «element_type» = 4; count = 2 }) }
-    ∷ record { format = abif; file = twoShorts; call = element ABCD 1 2; answers = ok (whole (negsuc 1)) }
-    ∷ record { format = abif; file = twoShorts; call = element ABCD 1 3; answers = refused 12 0 }
+    ∷ row abif twoShorts (of (lookup ABCD 1)) (ok (record { start = 148; size = 4; «element_type» = 4; count = 2 }))
+    ∷ row abif twoShorts (of (element ABCD 1 2)) (ok (whole (negsuc 1)))
+    ∷ row abif twoShorts (of (element ABCD 1 3)) (refused 12 0)
     -- W5
-    ∷ record { format = abif; file = twoShorts; call = lookup ABCD 2; answers = refused 7 0 }
+    ∷ row abif twoShorts (of (lookup ABCD 2)) (refused 7 0)
     -- W6
-    ∷ record { format = abif; file = threeShorts; call = judge; answers = ok 162 }
-    ∷ record { format = abif; file = take 161 threeShorts; call = judge; answers = refused 1 1 }
+    ∷ row abif threeShorts judge (ok 162)
+    ∷ row abif (take 161 threeShorts) judge (refused 1 1)
     -- W7
-    ∷ record { format = sff; file = sffHeader 0; call = Sff.judge; answers = ok 40 }
+    ∷ row sff (sffHeader 0) Sff.judge (ok 40)
     -- W8
-    ∷ record { format = sff; file = sffHeader 1 ++ threeBases; call = Sff.judge; answers = ok 88 }
-    ∷ record { format = sff; file = sffHeader 1 ++ threeBases; call = Sff.read 1 Insert; answers = ok readAt40 }
+    ∷ row sff (sffHeader 1 ++ threeBases) Sff.judge (ok 88)
+    ∷ row sff (sffHeader 1 ++ threeBases) (Sff.read 1 Insert) (ok readAt40)
     -- W9
-    ∷ record { format = gtc; file = noEntries; call = Gtc.judge; answers = ok (record { extent = 8; unjudged = 0 }) }
+    ∷ row gtc noEntries Gtc.judge (ok (record { extent = 8; unjudged = 0 }))
     -- W10
-    ∷ record { format = gtc; file = threeSnps; call = Gtc.judge; answers = ok (record { extent = 14; unjudged = 0 }) }
+    ∷ row gtc threeSnps Gtc.judge (ok (record { extent = 14; unjudged = 0 }))
     -- W11: AABB, eight Bs, refused
-    ∷ record { format = gtc; file = threeCodes; call = Gtc.snp 1; answers = ok (halfScored 13 (Alleles 4 2) 0x41 0x43 1) }
-    ∷ record { format = gtc; file = threeCodes; call = Gtc.snp 2; answers = ok (halfScored 45 (Alleles 8 8) 0x2d 0x2d 2) }
-    ∷ record { format = gtc; file = threeCodes; call = Gtc.snp 3; answers = refused 11 0 }
+    ∷ genotypeRow threeCodes 1 (ok (0x41 ∷ 0x41 ∷ 0x42 ∷ 0x42 ∷ []))
+    ∷ genotypeRow threeCodes 2 (ok (0x42 ∷ 0x42 ∷ 0x42 ∷ 0x42 ∷ 0x42 ∷ 0x42 ∷ 0x42 ∷ 0x42 ∷ []))
+    ∷ genotypeRow threeCodes 3 (refused 11 0)
     -- W12
-    ∷ record { format = abif; file = monthThirteen; call = element 0x52554e44 1 1; answers = refused 11 0 }
-    ∷ []
-
--- no sample of document 01: bytes behind the extent of W7 that look like a read, and what a cut makes of them
-abbrev pub behindTheExtent : List Sample
-behindTheExtent =
-    record { format = sff; file = sffHeader 0 ++ threeBases; call = Sff.judge; answers = ok 40 }
-    ∷ record { format = sff; file = sffHeader 0 ++ threeBases; call = Sff.readAt 40 Insert; answers = ok readAt40 }
-    ∷ record { format = sff; file = take 40 (sffHeader 0 ++ threeBases); call = Sff.readAt 40 Insert; answers = refused 1 0 }
+    ∷ row abif monthThirteen (of (element 0x52554e44 1 1)) (refused 11 0)
     ∷ []
 
 -- every row holds
 abbrev pub AllHold : List Sample → Type 0
 AllHold [] = Unit {0}
-AllHold (r ∷ rs) = (answer (r .format .checks (r .call)) (r .file) ≡ r .answers) × AllHold rs
+AllHold (r ∷ rs) = (mapAnswer (r .tells) (answer (r .format .checks (r .call)) (r .file)) ≡ r .answers) × AllHold rs

@@ -1,7 +1,6 @@
 pub mod Cut
 pub mod Steps
 pub mod Passed
-pub mod Refusing
 pub mod Explained
 pub mod Reach
 pub mod Refused

@@ -26,14 +26,14 @@ stood f = pick (f .sign) (signed (f .width) (f .value)) (pos (f .value))
 abbrev pub isNegative : Field → Bool
 isNegative f = pick (f .sign) (negative (f .width) (f .value)) false
 
--- the field obeys the rule
+-- what stands in the field obeys the rule
 unfoldable pub holds : Rule → Field → Bool
-holds (Exactly n) f = eqb (f .value) n
+holds (Exactly n) f = pick (isNegative f) false (eqb (f .value) n)
 holds (EqualTo n) f = pick (isNegative f) false (eqb (f .value) n)
 holds NotNegative f = pick (isNegative f) false true
 holds (AtLeast n) f = pick (isNegative f) false (leb n (f .value))
 holds (AtMost n) f = pick (isNegative f) true (leb (f .value) n)
-holds (Between m n) f = pick (leb m (f .value)) (leb (f .value) n) false
+holds (Between m n) f = pick (isNegative f) false (pick (leb m (f .value)) (leb (f .value) n) false)
 holds (Other k b) f = b
 
 -- a need: the bytes from start to end are present, else refusal 1

@@ -1,3 +1,3 @@
 pub mod Reach
-pub mod Refusing
+pub mod Refused
 pub mod NoIndex

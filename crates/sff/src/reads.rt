@@ -15,7 +15,7 @@ use reading::bulk::put_four;
 use reading::bulk::smaller;
 ghost use mathlib.Core.Path.{_≡_};
 ghost use mathlib.Core.List.{_++_};
-ghost use Prim.Native.Nat.{_+_, _*_, _≤_, _<_};
+ghost use Prim.Native.Nat.{_+_, _-_, _*_, _≤_, _<_};
 ghost use lib.ListN.{length, take, drop};
 ghost use lib.Seq.{sets};
 ghost use Rattle.reading.specs.Check.{passed, ok, refused, run, answer, mapAnswer};
@@ -149,12 +149,44 @@ fn put_reads(s: &[u8], d: Header, n: usize, b: Boundary, out: &mut [u64])
     }
 }
 
+// The records of n sound reads behind b and of n behind c, in turns, so that neither waits for what the other loads; the boundary behind the last.
+fn put_pairs(s: &[u8], d: Header, n: usize, b: Boundary, c: Boundary, out: &mut [u64]) -> Boundary
+    requires { ⌜ (b .position ≤ length (now s)) × (c .position ≤ length (now s)) × (17 * n + 17 * n ≤ length (now out)) × ((w : Passage) × (answer (walking d n 0 b) (now s) ≡ ok w)) × ((v : Passage) × (answer (walking d n 0 c) (now s) ≡ ok v)) ⌝ }
+    ensures { λ r. ⌜ ((v : Passage) → answer (walking d n 0 c) (now (s .entry)) ≡ ok v → r ≡ v .behind) ⌝ }
+    ensures { λ _. ⌜ ((w v : Passage) → answer (walking d n 0 b) (now (s .entry)) ≡ ok w → answer (walking d n 0 c) (now (s .entry)) ≡ ok v → now (out .exit) ≡ records 17 readNumbers (readsAt (d .flows) (now (s .entry)) (w .starts)) ++ (records 17 readNumbers (readsAt (d .flows) (now (s .entry)) (v .starts)) ++ drop (17 * n + 17 * n) (now (out .entry)))) ⌝ }
+{
+    let mut here = b;
+    let mut there = c;
+    let mut i = 0;
+    while i < n {
+        let one = sound_read(s, d, here);
+        let other = sound_read(s, d, there);
+        put_found(out, 17 * i, read_from(s, d.flows, one.start));
+        put_found(out, 17 * n + 17 * i, read_from(s, d.flows, other.start));
+        here = one.behind;
+        there = other.behind;
+        i += 1;
+    }
+    there
+}
+
+// The records of n sound reads behind b, where m of them, not more than half, stand before boundary c.
+fn put_halves(s: &[u8], d: Header, n: usize, m: usize, b: Boundary, c: Boundary, out: &mut [u64])
+    requires { ⌜ (b .position ≤ length (now s)) × (c .position ≤ length (now s)) × (m + m ≤ n) × (17 * n ≤ length (now out)) × ((w : Passage) × (answer (walking d m 0 b) (now s) ≡ ok w) × (w .behind ≡ c)) × ((v : Passage) × (answer (walking d (n - m) 0 c) (now s) ≡ ok v)) ⌝ }
+    ensures { λ _. ⌜ ((w : Passage) → answer (walking d n 0 b) (now (s .entry)) ≡ ok w → now (out .exit) ≡ records 17 readNumbers (readsAt (d .flows) (now (s .entry)) (w .starts)) ++ drop (17 * n) (now (out .entry))) ⌝ }
+{
+    let behind = put_pairs(s, d, m, b, c, out);
+    let start = 17 * m + 17 * m;
+    put_reads(s, d, n - m - m, behind, &mut out[start..]);
+}
+
 // The n reads from read i on, counted from 0: walked to the last of them, then written.
 fn reads_from(s: &[u8], d: Header, n: usize, i: usize, out: &mut [u64]) -> Listed
     requires { ⌜ (d .«header_length» ≤ length (now s)) × (i + n < 0x8000000000000000) × (17 * n ≤ length (now out)) ⌝ }
     ensures { λ r. ⌜ listed r ≡ mapAnswer length (answer (readsFrom d n i) (now (s .entry))) ⌝ }
     ensures { λ _. ⌜ now (out .exit) ≡ filled (mapAnswer (records 17 readNumbers) (answer (readsFrom d n i) (now (s .entry)))) (now (out .entry)) ⌝ }
 {
+    let half = n / 2;
     let front = Boundary {
         position: d.header_length as usize,
         met: false,
@@ -162,13 +194,17 @@ fn reads_from(s: &[u8], d: Header, n: usize, i: usize, out: &mut [u64]) -> Liste
     match walk(s, d, i, 0, front) {
         Walked::Bad(test, _) => Listed::Refused(test.number),
         Walked::Short(_, _, _) => Listed::Refused(1),
-        Walked::Behind(b) => match walk(s, d, n, i, b) {
+        Walked::Behind(b) => match walk(s, d, half, i, b) {
             Walked::Bad(test, _) => Listed::Refused(test.number),
             Walked::Short(_, _, _) => Listed::Refused(1),
-            Walked::Behind(_) => {
-                put_reads(s, d, n, b, out);
-                Listed::Count(n as u64)
-            }
+            Walked::Behind(c) => match walk(s, d, n - half, i + half, c) {
+                Walked::Bad(test, _) => Listed::Refused(test.number),
+                Walked::Short(_, _, _) => Listed::Refused(1),
+                Walked::Behind(_) => {
+                    put_halves(s, d, n, half, b, c, out);
+                    Listed::Count(n as u64)
+                }
+            },
         },
     }
 }

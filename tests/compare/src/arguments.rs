@@ -15,7 +15,7 @@ pub fn sample<T: Copy>(list: &[T]) -> Vec<T> {
 }
 
 /// Each number once.
-pub fn distinct(mut numbers: Vec<u64>) -> Vec<u64> {
+pub fn distinct<T: Ord>(mut numbers: Vec<T>) -> Vec<T> {
     numbers.sort_unstable();
     numbers.dedup();
     numbers
@@ -26,6 +26,16 @@ pub fn numbers_around(count: u64) -> Vec<u64> {
     let mut numbers = vec![0, 1, 2, count.div_ceil(2), count, count + 1];
     numbers.extend([PAST_16_BITS + 1, PAST_32_BITS, PAST_32_BITS + 1, u64::MAX]);
     distinct(numbers)
+}
+
+/// Rooms for a bulk call that has so many items left, of this width: none, a number too few for one
+/// item, just one, some, a number too few for all, all, and more.
+pub fn bulk_rooms(left: usize, width: usize) -> Vec<usize> {
+    let all = left * width;
+    let mut rooms = vec![0, width - 1, width, width + 1];
+    rooms.extend([left / 2 * width, left / 2 * width + width / 2]);
+    rooms.extend([all.saturating_sub(1), all, all + 3, all + width]);
+    distinct(rooms)
 }
 
 /// Rooms for an output of so many elements.

@@ -13,9 +13,6 @@ pub trait Question: Debug {
     fn ask_library(&self, bytes: &[u8]) -> Self::Answer;
 
     fn ask_reader(&self, bytes: &[u8]) -> Self::Answer;
-
-    /// Whether every beginning of this whole file from its extent on must answer as the file does.
-    fn holds_from_extent(&self, file: &[u8]) -> bool;
 }
 
 pub trait Answer: Debug + PartialEq {

@@ -17,14 +17,13 @@ use Rattle.reading.specs.Bulk.{leftFrom, fitting}
 use Rattle.reading.proofs.Steps.{answer-bind, answer-must}
 use Rattle.reading.proofs.Passed.{bind-ok, bind-answered, done-ok, must-ok}
 use Rattle.reading.proofs.Match.{among-each}
-use Rattle.reading.proofs.Refused.{Refuses, refuses-done, refuses-must, refuses-need, refuses-bind}
 use Rattle.reading.proofs.Tests.{number-within}
 use Rattle.abif.specs.declared.lookup.ItemData.{ItemData}
 use Rattle.abif.specs.Entry.{typeOf}
 use Rattle.abif.specs.Lookup.{lookingUp}
 use Rattle.abif.specs.Element.{whole, wholeAt, valueAt, isListed, sizeOf, elementPlace, itemBytes, elementOf, elementReading}
 use Rattle.abif.specs.Numbers.{isWhole, wholesAt, numbersOf, numbersReading}
-use Rattle.abif.proofs.Refused.{lookup-refuses}
+use Rattle.abif.proofs.Refused.{numbers-refuses}
 use Rattle.abif.proofs.numbers.Laws.{length-wholes, whole-listed}
 
 -- number j of those from place p on stands j times w bytes behind it
@@ -93,17 +92,4 @@ module _ (s : List ℕ) (a b first room : ℕ) where
 
   -- 13 only where not one fits
   pub no-room : (e : ℕ) → answer (numbersReading a b first room) s ≡ refused 13 e → room ≡ 0
-  unfolding numbersReading numbersOf holds
-  no-room e w = little .told 13 e w refl
-    where
-      P : ℕ → ℕ → Type 0
-      P n e = n ≡ 13 → room ≡ 0
-
-      little : Refuses P (numbersReading a b first room) s
-      little =
-          refuses-bind P _ _ s (lookup-refuses P (λ n h l. absurd (omega (arith, number-within n 10 h .1))) s a b) (λ q _.
-          refuses-bind P _ _ s (refuses-must P _ _ _ s (λ _ l. absurd (omega arith))) (λ _ _.
-          refuses-bind P _ _ s (refuses-must P _ _ _ s (λ _ l. absurd (omega arith))) (λ _ _.
-          refuses-bind P _ _ s (refuses-must P _ _ _ s (λ f _. omega (arith, leb-false 1 room f))) (λ _ _.
-          refuses-bind P _ _ s (refuses-need P _ _ s (λ l. absurd (omega arith))) (λ _ _.
-          refuses-done P _ s)))))
+  no-room e w = numbers-refuses (λ n _. n ≡ 13 → room ≡ 0) (λ n h l. absurd (omega (arith, number-within n 10 h .1))) s (λ l. absurd (omega arith)) a b first room (λ f _. omega (arith, leb-false 1 room f)) .told 13 e w refl

@@ -9,6 +9,7 @@ use Rattle.reading.proofs.Width.{be-in-part, be-front}
 use borrow.Author.Tests.{le-leb, lt-leb}
 use Rattle.reading.specs.Check.{ok, refused, answer, holds}
 use Rattle.reading.proofs.Steps.{answer-bind, answer-must, answer-done}
+use Rattle.abif.specs.Entry.{entryOf}
 use Rattle.abif.specs.Directory.{opening}
 use Rattle.abif_file.specs.Entry.{rawEntry, entryReading}
 use Rattle.abif.proofs.directory.Laws.{opened-at}
@@ -30,5 +31,5 @@ module _ (s : List ℕ) (i : ℕ) where
 
 -- an entry is that of the 28 bytes that it fills, whose number the code computes as k
 pub raw-part : (h : List ℕ) (p k : ℕ) → k ≡ 28 → rawEntry (take k (drop p h)) 0 ≡ rawEntry h p
-unfolding rawEntry
+unfolding rawEntry entryOf
 raw-part h p k e = rw (e, be-front 4 p 28 h (omega arith), be-in-part 4 p 28 4 h (omega arith), be-in-part 2 p 28 8 h (omega arith), be-in-part 2 p 28 10 h (omega arith), be-in-part 4 p 28 12 h (omega arith), be-in-part 4 p 28 16 h (omega arith), be-in-part 4 p 28 20 h (omega arith), be-in-part 4 p 28 24 h (omega arith))

@@ -15,6 +15,7 @@ use Rattle.reading.proofs.Width.{be-taken}
 use Rattle.reading.proofs.Steps.{after, answer-bind, answer-must, answer-done}
 use Rattle.reading.proofs.Passed.{bind-ok, done-ok, must-ok}
 use Rattle.abif_file.specs.declared.entry.RawEntry.{RawEntry}
+use Rattle.abif.specs.Entry.{entryOf}
 use Rattle.abif.specs.Directory.{Directory, directory, opening}
 use Rattle.abif.specs.declared.numbers.Copied.{Copied}
 use Rattle.abif_file.specs.Entry.{rawEntry}
@@ -55,7 +56,7 @@ module _ (s : List ℕ) (p : ℕ) (xs : List RawEntry) where
 -- the entries in the bytes up to place e are those in the bytes
 module _ (s : List ℕ) (e : ℕ) where
   raw-taken : (p : ℕ) → p + 28 ≤ e → rawEntry (take e s) p ≡ rawEntry s p
-  unfolding rawEntry
+  unfolding rawEntry entryOf
   raw-taken p h = rw (be-taken 4 e p s (omega arith), be-taken 4 e (p + 4) s (omega arith), be-taken 2 e (p + 8) s (omega arith), be-taken 2 e (p + 10) s (omega arith), be-taken 4 e (p + 12) s (omega arith), be-taken 4 e (p + 16) s (omega arith), be-taken 4 e (p + 20) s (omega arith), be-taken 4 e (p + 24) s (omega arith))
 
   entries-taken : (n p : ℕ) → p + 28 * n ≤ e → rawEntries (take e s) p n ≡ rawEntries s p n

@@ -18,7 +18,7 @@ use Rattle.abif.specs.Entry.{typeOf}
 use Rattle.abif_write.specs.declared.item.Item.{Item}
 use Rattle.abif_write.specs.declared.item.Passing.{Passing}
 use Rattle.abif_write.specs.declared.item.Passing.the-variants.{Pass, Fail}
-use Rattle.abif_write.specs.Contents.{contentsCheck, kept}
+use Rattle.abif_write.specs.ItemContents.{contentsCheck, kept}
 use Rattle.abif_write.specs.Item.{sameLengths, SameLengths, part, isTaken, countCheck, itemCheck, tagBelow, ordered, itemsCheck, passing, Sound}
 
 -- a test that the code negates

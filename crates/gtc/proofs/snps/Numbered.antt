@@ -10,11 +10,10 @@ use lib.ListN.{length, drop, length-drop}
 use lib.Dec.{leb}
 use borrow.Author.Tests.{le-leb, lt-leb, leb-true, leb-false}
 use Rattle.reading.specs.Choice.{isNumberOf}
-use Rattle.reading.specs.Check.{Check, Answer, ok, refused, answer, holds, done, provided, _>>=_, _>>_}
-use Rattle.reading.specs.Bulk.{leftFrom, fitting, oneFits, answersFrom, OfItem}
+use Rattle.reading.specs.Check.{Answer, ok, refused, answer, holds}
+use Rattle.reading.specs.Bulk.{leftFrom, fitting, answersFrom, OfItem}
 use Rattle.reading.proofs.Steps.{answer-bind, answer-must}
-use Rattle.reading.proofs.Passed.{bind-ok, done-ok, must-ok, bind-stops, must-stops}
-use Rattle.reading.proofs.Refusing.{none, refusing, refusing-bind, refusing-must}
+use Rattle.reading.proofs.Passed.{bind-ok, done-ok, must-ok}
 use Rattle.reading.proofs.bulk.Laws.{answers-are, of-item}
 use Rattle.reading.proofs.Tests.{number-within}
 use Rattle.gtc.specs.declared.snp.SnpArrays.{SnpArrays}
@@ -22,13 +21,13 @@ use Rattle.gtc.specs.declared.snp.Snp.{Snp}
 use Rattle.gtc.specs.Genotype.{decoding}
 use Rattle.gtc.specs.Snp.{snpArrays, SnpBytes, snpBytes, snpAt, snpOf, snpReading}
 use Rattle.gtc.specs.Snps.{snpsAt, snpsOf, snpsReading}
-use Rattle.gtc.proofs.Refusing.{record-refusing, bytes-refusing, arrays-refusing}
+use Rattle.gtc.proofs.Refused.{record-refuses, snps-refuses}
 use Rattle.gtc.proofs.snps.Laws.{length-snps}
 
 module _ (b : SnpBytes) where
   -- a SNP whose bytes are there is answered, or refused with 11
   snp-own : (k : ℕ) (s : List ℕ) → OfItem (answer (snpAt b k) s)
-  snp-own k s = of-item _ (refusing (λ n e. (n ≡ 11) × (e ≡ 0)) (snpAt b k) (record-refusing _ (refl, refl) b k) s)
+  snp-own k s = of-item _ (record-refuses (λ n e. (n ≡ 11) × (e ≡ 0)) s (refl, refl) b k .told)
 
   -- no file is looked at
   snp-any : (k : ℕ) (s l : List ℕ) → answer (snpAt b k) s ≡ answer (snpAt b k) l
@@ -143,31 +142,6 @@ module _ (s : List ℕ) (first room : ℕ) (v : List (Answer Snp)) (w : answer (
           let k = leb-true _ room q in
           inr (snp-none s (g .arrays) (g .arrays-ok) (first + length v) (rw (le-leb 1 (first + length v) (omega arith), lt-leb (first + length v) (g .arrays .genotypes .count) (omega arith))))
 
--- 13 is given only where not one fits: no check before that gives it, and none behind it
-module _ (s : List ℕ) (first room e : ℕ) where
-  abbrev Other : ℕ → ℕ → Type 0
-  Other n d = n ≡ 13 → ⊥
-
-  -- the elements, and what is answered of them
-  abbrev items : SnpArrays → Check (List (Answer Snp))
-  items a = snpBytes a >>= (λ b. done (snpsAt b (fitting 9 (leftFrom (a .genotypes .count) first) room) (first - 1)))
-
-  full-of : (a : SnpArrays) → answer (snpsOf a first room) s ≡ refused 13 e → room < 9
-  unfolding snpsOf holds
-  full-of a h = go (bind-stops _ _ s 13 e h)
-    where
-      rest : (answer (oneFits 9 room) s ≡ refused 13 e) ⊎ ((u : Unit {0}) × (answer (oneFits 9 room) s ≡ ok u) × (answer (items a) s ≡ refused 13 e)) → room < 9
-      rest (inl q) = leb-false 9 room (must-stops _ _ _ s 13 e q)
-      rest (inr q) = absurd (refusing Other (items a) (refusing-bind Other _ _ (bytes-refusing Other (λ z. omega arith) a) (λ b. none _)) s 13 e (q .2) refl)
-
-      go : (answer (provided (isNumberOf first (a .genotypes .count)) 12) s ≡ refused 13 e) ⊎ ((u : Unit {0}) × (answer (provided (isNumberOf first (a .genotypes .count)) 12) s ≡ ok u) × (answer (oneFits 9 room >> items a) s ≡ refused 13 e)) → room < 9
-      go (inl q) = absurd (refusing Other _ (refusing-must Other _ _ 12 (λ z. omega arith)) s 13 e q refl)
-      go (inr q) = rest (bind-stops _ _ s 13 e (q .2))
-
-  pub many-full : answer (snpsReading first room) s ≡ refused 13 e → room < 9
-  unfolding snpsReading
-  many-full h = go (bind-stops snpArrays _ s 13 e h)
-    where
-      go : (answer snpArrays s ≡ refused 13 e) ⊎ ((a : SnpArrays) × (answer snpArrays s ≡ ok a) × (answer (snpsOf a first room) s ≡ refused 13 e)) → room < 9
-      go (inl q) = absurd (refusing Other _ (arrays-refusing Other (λ z. omega arith) (λ z. omega arith) (λ z. omega arith) (λ z. omega arith) (λ z. omega arith) (λ z. omega arith) (λ z. omega arith) (λ z. omega arith) (λ z. omega arith) (λ z. omega arith)) s 13 e q refl)
-      go (inr q) = full-of (q .0) (q .2)
+-- 13 only where not one fits
+pub many-full : (s : List ℕ) (first room e : ℕ) → answer (snpsReading first room) s ≡ refused 13 e → room < 9
+many-full s first room e h = snps-refuses (λ n _. n ≡ 13 → room < 9) s (λ q. absurd (omega arith)) (λ q. absurd (omega arith)) (λ q. absurd (omega arith)) (λ q. absurd (omega arith)) (λ q. absurd (omega arith)) (λ q. absurd (omega arith)) (λ q. absurd (omega arith)) (λ q. absurd (omega arith)) (λ q. absurd (omega arith)) (λ q. absurd (omega arith)) (λ q. absurd (omega arith)) first room (λ f _. leb-false 9 room f) .told 13 e h refl

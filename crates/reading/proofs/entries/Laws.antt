@@ -17,7 +17,7 @@ use Rattle.reading.proofs.Steps.{run-bind, run-must, run-done, run-at, 
 use Rattle.reading.proofs.Passed.{bind-ok, must-ok, done-ok, at-ok}
 use Rattle.reading.proofs.Explained.{explained-short}
 use Rattle.reading.proofs.Reach.{reach-none}
-use Rattle.reading.proofs.Refused.{Refuses, refuses-done, refuses-must, refuses-bind}
+use Rattle.reading.proofs.Refused.{Refuses, refuses-done, refuses-must, refuses-bind, refuses-at}
 use Rattle.reading.proofs.Tests.{span}
 
 module _ (f : ℕ → Bool) where
@@ -98,6 +98,12 @@ module _ (f : ℕ → Bool) where
   pub one-refuses : (P : ℕ → ℕ → Type 0) (n : ℕ) (s : List ℕ) → P 7 0 → P 8 0 → Refuses P (oneWith f n) s
   unfolding oneWith
   one-refuses P n s a b = search (refuses-bind, refuses-must, refuses-done)
+
+-- what holds of every refusal of entries in order, each reported by its number
+pub order-refuses : (P : ℕ → ℕ → Type 0) (s : List ℕ) (t : ℕ → Check ℕ) → ((i : ℕ) → Refuses (λ n _. P n (i + 1)) (t i) s) → (n i x : ℕ) → Refuses P (inOrder t n i x) s
+unfolding inOrder
+order-refuses P s t h zero i x = refuses-done P x s
+order-refuses P s t h (suc n) i x = refuses-bind P _ _ s (refuses-at (λ m _. P m (i + 1)) P (i + 1) (t i) s (λ m e q. q) (h i)) (λ y _. order-refuses P s t h n (i + 1) (max x y))
 
 -- what is the same beyond b is the same beyond more
 pub beyond : (b x e y : ℕ) → b ≤ x → max b e ≡ max b y → max x e ≡ max x y

@@ -2,11 +2,11 @@
 -- Assumes nothing.
 use Prim.Native.Nat.{ℕ, zero, suc, _+_, _-_, _*_, _/_, _≤_, _<_}
 use mathlib.Core.Path.{_≡_, refl, sym, _∙_, ap, subst}
-use mathlib.Core.List.{List, [], _∷_, _++_}
+use mathlib.Core.List.{List, [], _∷_, _++_, append-assoc, append-nil}
 use native.Mathlib.Nat.{zero-add}
 use native.Mathlib.Omega.{arith}
-use lib.ListN.{length, take, drop, length-append}
-use lib.Seq.{drop-at}
+use lib.ListN.{length, take, drop, length-append, length-drop}
+use lib.Seq.{take-length, drop-length, drop-drop, take-at, drop-at}
 use borrow.Author.Tests.{le-leb, lt-leb}
 use Rattle.reading.specs.declared.check.Test.{Test}
 use Rattle.reading.specs.Check.{Need, Outcome, passed, failed, short, Answer, ok, refused, plain, run, answer, holds, done}
@@ -22,7 +22,7 @@ use Rattle.sff.specs.Lookup.{readFrom}
 use Rattle.sff.specs.Reads.{readsAt, readsFrom, readsIn, readNumbers}
 use Rattle.sff.proofs.walk.Laws.{next-ok, past-within, walk-within, walk-any, walk-length}
 use Rattle.sff.proofs.walk.Reach.{walk-reach}
-use Rattle.sff.proofs.walk.Split.{walk-join, past-plus}
+use Rattle.sff.proofs.walk.Split.{walk-split, walk-join, past-plus}
 use Rattle.sff.proofs.Reach.{from-under}
 
 module _ (d : Header) (s : List ℕ) where
@@ -43,6 +43,24 @@ module _ (d : Header) (s : List ℕ) where
   pub along-end : (b : Boundary) → along 0 b ≡ []
   unfolding along
   along-end b = refl
+
+  abbrev ends : Boundary → Outcome Placed → (Boundary → Boundary) → Boundary
+  ends b (passed r) f = f (r .behind)
+  ends b (failed t e) f = b
+  ends b (short m e) f = b
+
+  -- the boundary behind them
+  pub farther : ℕ → Boundary → Boundary
+  farther zero b = b
+  farther (suc n) b = ends b (run (nextRead d 0 b) s) (farther n)
+
+  pub farther-next : (b : Boundary) (r : Placed) → run (nextRead d 0 b) s ≡ passed r → (m : ℕ) → farther (suc m) b ≡ farther m (r .behind)
+  unfolding farther
+  farther-next b r h m = rw h
+
+  pub farther-end : (b : Boundary) → farther 0 b ≡ b
+  unfolding farther
+  farther-end b = refl
 
   -- a walk of n reads from b on passes
   abbrev pub Passes : ℕ → Boundary → Type 0
@@ -93,6 +111,13 @@ module _ (d : Header) (s : List ℕ) where
       let f = first-of n b w h in
       let e = along-is n (f .read .behind) (f .rest) (f .goes-on) in
       rw (f .passes) (ap (λ (l : List ℕ). f .read .start ∷ l) e ∙ ap (λ (x : Passage). x .starts) (f .all))
+
+  pub farther-is : (n : ℕ) (b : Boundary) (w : Passage) → answer (walk d n 0 b) s ≡ ok w → farther n b ≡ w .behind
+  unfolding farther walk
+  farther-is zero b w h = ap (λ (x : Passage). x .behind) (done-ok _ w s h)
+  farther-is (suc n) b w h =
+      let f = first-of n b w h in
+      rw (f .passes) (farther-is n (f .read .behind) (f .rest) (f .goes-on) ∙ ap (λ (x : Passage). x .behind) (f .all))
 
 -- what passes neither fails nor is cut short
 module _ (r : Placed) (o : Outcome Placed) (h : o ≡ passed r) where
@@ -163,6 +188,75 @@ module _ (d : Header) (s : List ℕ) where
       let g = answer-same (readFrom (d .flows) (a .0 .start)) m s (from-under m (d .flows) (a .0 .start) s _ (k .framing-ok) (omega arith)) in
       let t = reads-within n (i + 1) m (a .0 .behind) (e .0) (e .1) (omega arith) in
       subst (λ (x : Passage). readsAt (d .flows) (take m s) (x .starts) ≡ readsAt (d .flows) s (x .starts)) z (λ j. g j ∷ t j)
+
+-- reads that a walk passes in two parts, of which the first is not the longer: as many of the second, and the rest behind them
+pub record Halves (d : Header) (s : List ℕ) (m n : ℕ) (b c : Boundary) : Type 0 where
+  pub one : Passage
+  pub one-ok : answer (walk d m 0 b) s ≡ ok one
+  pub other : Passage
+  pub other-ok : answer (walk d m 0 c) s ≡ ok other
+  pub rest : Passage
+  pub rest-ok : answer (walk d (n - m - m) 0 (other .behind)) s ≡ ok rest
+  pub all : (w : Passage) → answer (walk d n 0 b) s ≡ ok w → w .starts ≡ one .starts ++ (other .starts ++ rest .starts)
+  pub within : c .position ≤ length s → other .behind .position ≤ length s
+
+same-passage : (w v : Passage) (a : Answer Passage) → a ≡ ok w → a ≡ ok v → w ≡ v
+same-passage w v a h k = let z : ok w ≡ ok v = sym h ∙ k in cc
+
+pub halves : (d : Header) (s : List ℕ) (m n : ℕ) (b c : Boundary) → m + m ≤ n → (w : Passage) → answer (walk d m 0 b) s ≡ ok w → w .behind ≡ c → (v : Passage) → answer (walk d (n - m) 0 c) s ≡ ok v → Halves d s m n b c
+halves d s m n b c l w h e v k =
+    let x : n - m ≡ m + (n - m - m) = omega arith in
+    let y : m + (n - m) ≡ n = omega arith in
+    let g = walk-split d s m (n - m - m) 0 c v (subst (λ (j : ℕ). answer (walk d j 0 c) s ≡ ok v) x k) in
+    let j = subst (λ (t : ℕ). answer (walk d t 0 b) s ≡ ok (record { starts = w .starts ++ v .starts; behind = v .behind })) y (walk-join d s m (n - m) 0 b w v h (subst (λ (z : Boundary). answer (walk d (n - m) 0 z) s ≡ ok v) (sym e) k)) in
+    record {
+      one = w;
+      one-ok = h;
+      other = g .first;
+      other-ok = g .first-ok 0;
+      rest = g .rest;
+      rest-ok = g .rest-ok 0;
+      all = λ u r. ap (λ (z : Passage). z .starts) (same-passage u _ _ r j) ∙ ap (λ (z : List ℕ). w .starts ++ z) (g .starts);
+      within = λ r. walk-within d s m 0 c r (g .first) (g .first-ok 0);
+    }
+
+-- the records of reads one behind the other
+records-append : (f : ℕ) (l ps qs : List ℕ) → records 17 readNumbers (readsAt f l (ps ++ qs)) ≡ records 17 readNumbers (readsAt f l ps) ++ records 17 readNumbers (readsAt f l qs)
+unfolding readsAt
+records-append f l [] qs = refl
+records-append f l (p ∷ ps) qs = ap (λ (x : List ℕ). recordOf 17 readNumbers (answer (readFrom f p) l) ++ x) (records-append f l ps qs) ∙ sym (append-assoc (recordOf 17 readNumbers (answer (readFrom f p) l)) (records 17 readNumbers (readsAt f l ps)) (records 17 readNumbers (readsAt f l qs)))
+
+-- a list whose front is written, and then what lies behind that
+written-behind : (a e o x y : List ℕ) (h k : ℕ) → length a ≡ h → h ≤ length x → x ≡ a ++ drop h o → y ≡ e ++ drop k (take (length x - h) (drop h x)) → take h x ++ (y ++ drop (length x - h) (drop h x)) ≡ (a ++ e) ++ drop (h + k) o
+written-behind a e o x y h k l r f g =
+    let z : length (drop h x) ≡ length x - h = length-drop h x in
+    let t : take h x ≡ a = ap (take h) f ∙ take-at a (drop h o) h l in
+    let u : drop h x ≡ drop h o = ap (drop h) f ∙ drop-at a (drop h o) h l in
+    let v : take (length x - h) (drop h x) ≡ drop h o = ap (λ (j : ℕ). take j (drop h x)) (sym z) ∙ take-length (drop h x) ∙ u in
+    let w : drop (length x - h) (drop h x) ≡ [] = ap (λ (j : ℕ). drop j (drop h x)) (sym z) ∙ drop-length (drop h x) in
+    rw (w, t, g, v, drop-drop k h o) (simp (append-assoc, append-nil))
+
+-- the lent list after both halves are written, and then the rest
+module _ (d : Header) (s : List ℕ) (m n : ℕ) (b c : Boundary) (a : Halves d s m n b c) (l : m + m ≤ n) (o x y : List ℕ) (r : 17 * n ≤ length x) where
+  abbrev recorded : Passage → List ℕ
+  recorded w = records 17 readNumbers (readsAt (d .flows) s (w .starts))
+
+  recorded-length : (k : ℕ) (e : Boundary) (w : Passage) → answer (walk d k 0 e) s ≡ ok w → length (recorded w) ≡ 17 * k
+  recorded-length k e w h =
+      let p = records-length (readsAt (d .flows) s (w .starts)) in
+      let q = reads-length (d .flows) s (w .starts) in
+      let t = walk-length d s k 0 e w h in
+      p ∙ ap (λ (j : ℕ). 17 * j) (q ∙ t)
+
+  pub halves-written : x ≡ recorded (a .one) ++ (recorded (a .other) ++ drop (17 * m + 17 * m) o) → y ≡ recorded (a .rest) ++ drop (17 * (n - m - m)) (take (length x - (17 * m + 17 * m)) (drop (17 * m + 17 * m) x)) → (w : Passage) → answer (walk d n 0 b) s ≡ ok w → take (17 * m + 17 * m) x ++ (y ++ drop (length x - (17 * m + 17 * m)) (drop (17 * m + 17 * m) x)) ≡ recorded w ++ drop (17 * n) o
+  halves-written f g w h =
+      let p = recorded-length m b (a .one) (a .one-ok) in
+      let q = recorded-length m c (a .other) (a .other-ok) in
+      let e : length (recorded (a .one) ++ recorded (a .other)) ≡ 17 * m + 17 * m = length-append (recorded (a .one)) (recorded (a .other)) ∙ ap (λ (j : ℕ). j + length (recorded (a .other))) p ∙ ap (λ (j : ℕ). 17 * m + j) q in
+      let k : 17 * m + 17 * m + 17 * (n - m - m) ≡ 17 * n = omega arith in
+      let z = written-behind (recorded (a .one) ++ recorded (a .other)) (recorded (a .rest)) o x y (17 * m + 17 * m) (17 * (n - m - m)) e (omega arith) (f ∙ sym (append-assoc (recorded (a .one)) (recorded (a .other)) (drop (17 * m + 17 * m) o))) g in
+      let t : recorded w ≡ (recorded (a .one) ++ recorded (a .other)) ++ recorded (a .rest) = ap (λ (u : List ℕ). records 17 readNumbers (readsAt (d .flows) s u)) (a .all w h) ∙ records-append (d .flows) s (a .one .starts) (a .other .starts ++ a .rest .starts) ∙ ap (λ (u : List ℕ). recorded (a .one) ++ u) (records-append (d .flows) s (a .other .starts) (a .rest .starts)) ∙ sym (append-assoc (recorded (a .one)) (recorded (a .other)) (recorded (a .rest))) in
+      z ∙ ap (λ (j : ℕ). ((recorded (a .one) ++ recorded (a .other)) ++ recorded (a .rest)) ++ drop j o) k ∙ ap (λ (j : List ℕ). j ++ drop (17 * n) o) (sym t)
 
 -- n reads from read i on, from the walks up to read i and over them
 module _ (d : Header) (n i : ℕ) (s : List ℕ) where

@@ -10,13 +10,11 @@ use lib.Dec.{leb}
 use lib.ListN.{length, take, drop, getD, length-drop}
 use lib.Seq.{drop-drop}
 use borrow.Author.Tests.{leb-true, leb-false}
-use Rattle.reading.specs.Choice.{isNumberOf}
-use Rattle.reading.specs.Check.{Answer, passed, ok, refused, run, answer, provided, holds, _>>_}
-use Rattle.reading.specs.Bulk.{leftFrom, fitting, oneFits, answersFrom, OfItem}
+use Rattle.reading.specs.Check.{Answer, passed, ok, refused, run, answer, holds}
+use Rattle.reading.specs.Bulk.{leftFrom, fitting, answersFrom, OfItem}
 use Rattle.reading.proofs.Cut.{answer-ok}
 use Rattle.reading.proofs.Steps.{answer-bind}
-use Rattle.reading.proofs.Passed.{bind-ok, done-ok, must-ok, need-ok, at-ok, bind-answered, bind-stops, must-stops}
-use Rattle.reading.proofs.Refusing.{refusing, refusing-must}
+use Rattle.reading.proofs.Passed.{bind-ok, done-ok, must-ok, need-ok, at-ok, bind-answered}
 use Rattle.reading.proofs.bulk.Laws.{answers-are, of-item}
 use Rattle.reading.proofs.Tests.{number-within}
 use Rattle.sff.specs.declared.header.Header.{Header}
@@ -30,7 +28,7 @@ use Rattle.sff.specs.Reads.{readsAt, readsFrom, readsIn, readsReading}
 use Rattle.sff.proofs.walk.Laws.{before-is, before-past, next-ok, walk-length}
 use Rattle.sff.proofs.walk.Split.{nth}
 use Rattle.sff.proofs.lookup.Laws.{in-found, from-contents}
-use Rattle.sff.proofs.Refusing.{header-refusing, contents-refusing, reads-from-refusing}
+use Rattle.sff.proofs.Refused.{contents-refuses, reads-refuses}
 use Rattle.sff.proofs.reads.Laws.{reads-length, reads-within}
 
 -- what has passed where the bulk call answers
@@ -81,7 +79,7 @@ reads-nth f l (p ∷ ps) (suc k) r t h = reads-nth f l ps k r t h
 
 -- contents are answered or refused with 11
 contents-own : (f : ℕ) (d : ReadHeader) (l s : List ℕ) → OfItem (answer (readContents f d l) s)
-contents-own f d l s = of-item _ (refusing (λ n e. (n ≡ 11) × (e ≡ 0)) (readContents f d l) (contents-refusing _ (refl, refl) f d l) s)
+contents-own f d l s = of-item _ (contents-refuses (λ n e. (n ≡ 11) × (e ≡ 0)) s (refl, refl) f d l .told)
 
 module _ (s : List ℕ) (first room : ℕ) (v : List (Answer Read)) (g : Listed s first room v) where
   abbrev d : Header
@@ -166,27 +164,6 @@ module _ (s : List ℕ) (first room : ℕ) (v : List (Answer Read)) (w : answer 
           let m : g .head .reads < first + length v = omega arith in
           inr (past-reads s (g .head) (first + length v) (g .head-ok) m)
 
--- 13 is given only where not one fits: no check before that gives it, and none behind it
-module _ (s : List ℕ) (first room e : ℕ) where
-  abbrev Other : ℕ → ℕ → Type 0
-  Other n d = n ≡ 13 → ⊥
-
-  full-in : (d : Header) → answer (readsIn d first room) s ≡ refused 13 e → room < 17
-  unfolding readsIn holds
-  full-in d h = go (bind-stops _ _ s 13 e h)
-    where
-      rest : (answer (oneFits 17 room) s ≡ refused 13 e) ⊎ ((u : Unit {0}) × (answer (oneFits 17 room) s ≡ ok u) × (answer (readsFrom d (fitting 17 (leftFrom (d .reads) first) room) (first - 1)) s ≡ refused 13 e)) → room < 17
-      rest (inl q) = leb-false 17 room (must-stops _ _ _ s 13 e q)
-      rest (inr q) = absurd (refusing Other _ (reads-from-refusing Other (λ z. omega arith) (λ z. omega arith) (λ z. omega arith) (λ z. omega arith) (λ z. omega arith) (λ z. omega arith) d (fitting 17 (leftFrom (d .reads) first) room) (first - 1)) s 13 e (q .2) refl)
-
-      go : (answer (provided (isNumberOf first (d .reads)) 7) s ≡ refused 13 e) ⊎ ((u : Unit {0}) × (answer (provided (isNumberOf first (d .reads)) 7) s ≡ ok u) × (answer (oneFits 17 room >> readsFrom d (fitting 17 (leftFrom (d .reads) first) room) (first - 1)) s ≡ refused 13 e)) → room < 17
-      go (inl q) = absurd (refusing Other _ (refusing-must Other _ _ 7 (λ z. omega arith)) s 13 e q refl)
-      go (inr q) = rest (bind-stops _ _ s 13 e (q .2))
-
-  pub many-full : answer (readsReading first room) s ≡ refused 13 e → room < 17
-  unfolding readsReading
-  many-full h = go (bind-stops header _ s 13 e h)
-    where
-      go : (answer header s ≡ refused 13 e) ⊎ ((d : Header) × (answer header s ≡ ok d) × (answer (readsIn d first room) s ≡ refused 13 e)) → room < 17
-      go (inl q) = absurd (refusing Other _ (header-refusing Other (λ z. omega arith) (λ z. omega arith) (λ z. omega arith) (λ z. omega arith)) s 13 e q refl)
-      go (inr q) = full-in (q .0) (q .2)
+-- 13 only where not one fits
+pub many-full : (s : List ℕ) (first room e : ℕ) → answer (readsReading first room) s ≡ refused 13 e → room < 17
+many-full s first room e h = reads-refuses (λ n _. n ≡ 13 → room < 17) s (λ q. absurd (omega arith)) (λ q. absurd (omega arith)) (λ q. absurd (omega arith)) (λ q. absurd (omega arith)) (λ q. absurd (omega arith)) (λ q. absurd (omega arith)) first room (λ f _. leb-false 17 room f) .told 13 e h refl

@@ -86,6 +86,11 @@ module _ (d : Header) (s : List ℕ) where
       go g (failed t e) h = past-failed d i b s t e h (m + n) ∙ ap (λ (o : Outcome Boundary). then o f) (sym (past-failed d i b s t e h m))
       go g (short k e) h = past-short d i b s k e h (m + n) ∙ ap (λ (o : Outcome Boundary). then o f) (sym (past-short d i b s k e h m))
 
+  pub past-parts : (m n i : ℕ) (b : Boundary) → m ≤ n → (o : Outcome Boundary) → run (walkPast d m i b) s ≡ o → run (walkPast d n i b) s ≡ then o (λ c. run (walkPast d (n - m) (i + m) c) s)
+  past-parts m n i b l o h =
+      let q : n ≡ m + (n - m) = omega arith in
+      ap (λ (k : ℕ). run (walkPast d k i b) s) q ∙ past-plus m (n - m) i b ∙ ap (λ (x : Outcome Boundary). then x (λ c. run (walkPast d (n - m) (i + m) c) s)) h
+
   -- read j of a walk, counted from 0: what is walked before it, and the read
   pub record Nth (j : ℕ) (b : Boundary) (w : Passage) : Type 0 where
     pub before : Passage

@@ -1,6 +1,7 @@
 //! ABIF: its reader, its writer, its files and its calls.
 
 pub mod answers;
+mod bulk;
 mod calls;
 mod counts;
 mod damage;
@@ -29,7 +30,7 @@ use draft::Draft;
 use questions::Question;
 use std::ops::Range;
 
-pub const GROUPS: [(&str, Run); 19] = [
+pub const GROUPS: [(&str, Run); 20] = [
     ("ABIF published samples", published::samples),
     ("ABIF every type and small size", whole::small_sizes),
     (
@@ -42,6 +43,7 @@ pub const GROUPS: [(&str, Run); 19] = [
     ("ABIF long items", whole::long_items),
     ("ABIF listing into every room", listing::rooms),
     ("ABIF listing every field", listing::fields),
+    ("ABIF whole numbers at once", bulk::whole_numbers),
     ("ABIF opened files", opened::files),
     ("ABIF whole files", random_files::<Abif>),
     ("ABIF one rule broken", damaged::single_changes::<Abif>),

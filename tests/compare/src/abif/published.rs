@@ -6,7 +6,6 @@ use super::questions::{Answer, Question};
 use super::reader::{Carried, Entry, Tag};
 use super::samples;
 use crate::answers::{Found, Listed, Verdict, Written};
-use crate::format::Question as _;
 use crate::groups::expect;
 use crate::program;
 use crate::report::Group;
@@ -104,20 +103,31 @@ fn one_inline_item(group: &mut Group) {
     expect(group, &file, element(ABCD_1, 3), no_element(12));
     expect(group, &file, lookup(ABCD_2), not_found(7));
     expect(group, &file[..155], Question::Judge, refused(1, 0));
-    let numbers = Question::WholeNumbers {
-        tag: ABCD_1,
-        first: 1,
-        room: 2,
-    };
-    let written = Listed {
-        refusal: 0,
-        count: 2,
-    };
-    for answer in [numbers.ask_library(&file), numbers.ask_reader(&file)] {
-        let right = matches!(&answer, Answer::Numbers(numbers)
-            if numbers.listed == written && numbers.out[..2] == [1, -2]);
-        group.check(right, &file, || format!("{numbers:?}: {answer:?}"));
+    for (first, room, right) in [(1, 1, &[1][..]), (1, 2, &[1, -2]), (2, 3, &[-2])] {
+        numbers(group, &file, (first, room), right);
     }
+    for (first, room, refusal) in [(1, 0, 13), (0, 2, 12), (3, 0, 12)] {
+        let refused = Answer::Numbers(Written::refused(refusal, room));
+        expect(group, &file, whole_numbers(first, room), refused);
+    }
+}
+
+fn whole_numbers(first: u64, room: usize) -> Question {
+    let tag = ABCD_1;
+    Question::WholeNumbers { tag, first, room }
+}
+
+// From a number on, in this room: these numbers and nothing behind them.
+fn numbers(group: &mut Group, file: &[u8], (first, room): (u64, usize), right: &[i64]) {
+    let written = Written::by(room, |out: &mut [i64]| {
+        out[..right.len()].copy_from_slice(right);
+        Listed {
+            refusal: 0,
+            count: right.len() as u64,
+        }
+    });
+    let answer = Answer::Numbers(written);
+    expect(group, file, whole_numbers(first, room), answer);
 }
 
 // The one entry, for the bytes alone and for the opened file.

@@ -5,7 +5,7 @@ use super::calls::Call;
 use super::library;
 use super::reader::{self, Carried, Entry, Tag};
 use crate::answers::{Found, Verdict, Written};
-use crate::arguments::{numbers_around, rooms, sample, PAST_16_BITS, PAST_32_BITS};
+use crate::arguments::{bulk_rooms, numbers_around, rooms, sample, PAST_16_BITS, PAST_32_BITS};
 use crate::big_endian::u32_at;
 use crate::format;
 
@@ -93,10 +93,6 @@ impl format::Question for Question {
                 Answer::Numbers(Written::by(room, call))
             }
         }
-    }
-
-    fn holds_from_extent(&self, _file: &[u8]) -> bool {
-        true
     }
 }
 
@@ -225,7 +221,7 @@ fn count_of(bytes: &[u8], tag: Tag) -> u64 {
 fn whole_number_questions(tag: Tag, count: u64, length: usize, list: &mut Vec<Question>) {
     for first in numbers_around(count) {
         let left = (count + 1).saturating_sub(first.max(1));
-        for room in rooms(left.min(length as u64) as usize) {
+        for room in bulk_rooms(left.min(length as u64) as usize, 1) {
             list.push(Question::WholeNumbers { tag, first, room });
         }
     }

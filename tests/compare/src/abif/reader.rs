@@ -352,7 +352,8 @@ pub fn list(bytes: &[u8], out: &mut [Entry]) -> Result<usize, Refusal> {
     Ok(directory.count)
 }
 
-/// Writes the elements from number `first` on to the front of `out` and returns how many they are.
+/// Writes the elements from number `first` on to the front of `out`, as many as are left and fit, and
+/// returns how many.
 pub fn whole_numbers(
     bytes: &[u8],
     tag: Tag,
@@ -367,17 +368,17 @@ pub fn whole_numbers(
         return Err(Refusal::NoSuchElement);
     }
     let skipped = (first - 1) as usize;
-    let wanted = item.count as usize - skipped;
-    if out.len() < wanted {
+    let count = out.len().min(item.count as usize - skipped);
+    if count == 0 {
         return Err(Refusal::OutputTooSmall);
     }
     let size = item.length / item.count as usize;
     copy_numbers(
         item.kind,
         &bytes[item.range()][skipped * size..],
-        &mut out[..wanted],
+        &mut out[..count],
     );
-    Ok(wanted)
+    Ok(count)
 }
 
 fn copy_numbers(kind: Type, data: &[u8], out: &mut [i64]) {

@@ -61,23 +61,20 @@ fn files<F: Format>() -> Vec<File<F>> {
 // Asks every call on every beginning, each in a buffer of exactly its own length.
 fn cut_file<Q: Question>(group: &mut Group, file: &[u8], asked: &[Q]) {
     let extent = extent_of::<Q>(file);
-    let on_the_file: Vec<(Q::Answer, Option<usize>)> = asked
+    let on_the_file: Vec<Q::Answer> = asked
         .iter()
-        .map(|question| {
-            let settled = extent.filter(|_| question.holds_from_extent(file));
-            (question.ask_library(file), settled)
-        })
+        .map(|question| question.ask_library(file))
         .collect();
     for length in 0..=file.len() {
         group.input();
         let cut = file[..length].to_vec().into_boxed_slice();
-        for (question, (full, settled)) in asked.iter().zip(&on_the_file) {
+        for (question, full) in asked.iter().zip(&on_the_file) {
             let answer = question.ask_library(&cut);
             let expected = question.ask_reader(&cut);
             group.check(answer == expected, file, || {
                 format!("cut to {length}: {question:?}: library {answer:?}, reader {expected:?}")
             });
-            group.check(is_due(&answer, full, length, *settled), file, || {
+            group.check(is_due(&answer, full, length, extent), file, || {
                 format!("cut to {length}: {question:?}: {answer:?}, on the full file {full:?}")
             });
         }
@@ -89,10 +86,10 @@ fn extent_of<Q: Question>(file: &[u8]) -> Option<usize> {
     (verdict.refusal == 0).then_some(verdict.extent as usize)
 }
 
-// A cut answers as the full file or that it is cut short, and a whole file's extent, where the
-// answer is settled, parts the two; judging must find the same extent in every longer cut.
-fn is_due<A: Answer>(answer: &A, full: &A, length: usize, settled: Option<usize>) -> bool {
-    match (settled, answer.verdict()) {
+// A cut answers as the full file or that it is cut short, from a whole file's extent on as the full
+// file; judging must find the same extent in every longer cut, and none below.
+fn is_due<A: Answer>(answer: &A, full: &A, length: usize, extent: Option<usize>) -> bool {
+    match (extent, answer.verdict()) {
         (Some(extent), _) if length >= extent => answer == full,
         (Some(_), Some(_)) => answer.is_cut_short(),
         _ => answer == full || answer.is_cut_short(),

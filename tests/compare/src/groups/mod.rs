@@ -1,5 +1,6 @@
 //! The test groups.
 
+pub mod bulk;
 pub mod cuts;
 pub mod damaged;
 mod program_lines;

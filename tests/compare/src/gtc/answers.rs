@@ -1,8 +1,11 @@
 //! The answers of the GTC functions, field by field, and the same answers made from the reader's.
 
-use super::reader::{self, Item, Judged, Transformation};
+use super::reader::{self, Item, Judged, PlacedTransformation, Transformation};
 use crate::answers::{Found, Verdict};
 use crate::refusal::{Refusal, Refused};
+
+/// How many numbers the bulk call writes for a SNP.
+pub const SNP_NUMBERS: usize = 9;
 
 #[repr(C)]
 #[derive(Clone, Copy, Debug, Default, PartialEq, Eq)]
@@ -22,6 +25,7 @@ pub struct Snp {
 #[derive(Clone, Copy, Debug, Default, PartialEq)]
 pub struct TransformationAnswer {
     pub refusal: u64,
+    pub start: u64,
     pub value: Transformation,
 }
 
@@ -133,12 +137,31 @@ impl Snp {
             ..Snp::default()
         }
     }
+
+    /// The fields in their order, as the bulk call writes them.
+    pub fn numbers(&self) -> [u64; SNP_NUMBERS] {
+        [
+            self.refusal,
+            self.code,
+            self.ploidy,
+            self.b_alleles,
+            self.call_1,
+            self.call_2,
+            self.score_bits,
+            self.x,
+            self.y,
+        ]
+    }
 }
 
-impl From<Result<Transformation, Refusal>> for TransformationAnswer {
-    fn from(answer: Result<Transformation, Refusal>) -> TransformationAnswer {
+impl From<Result<PlacedTransformation, Refusal>> for TransformationAnswer {
+    fn from(answer: Result<PlacedTransformation, Refusal>) -> TransformationAnswer {
         match answer {
-            Ok(value) => TransformationAnswer { refusal: 0, value },
+            Ok(placed) => TransformationAnswer {
+                refusal: 0,
+                start: placed.start as u64,
+                value: placed.value,
+            },
             Err(refusal) => TransformationAnswer::refused(refusal as u64),
         }
     }

@@ -2,6 +2,7 @@
 
 pub mod answers;
 mod bounds;
+mod bulk;
 mod damage;
 mod draft;
 pub mod generate;
@@ -25,7 +26,7 @@ use draft::Draft;
 use questions::Question;
 use std::ops::Range;
 
-pub const GROUPS: [(&str, Run); 23] = [
+pub const GROUPS: [(&str, Run); 24] = [
     ("GTC published samples", published::samples),
     ("GTC every shape and small size", whole::shapes),
     ("GTC every genotype code", whole::genotype_codes),
@@ -33,6 +34,7 @@ pub const GROUPS: [(&str, Run); 23] = [
     ("GTC special numbers", whole::numbers),
     ("GTC long files", whole::long_files),
     ("GTC parts as built", whole::parts),
+    ("GTC SNPs at once", bulk::snps),
     ("GTC whole files", random_files::<Gtc>),
     ("GTC every id", bounds::every_id),
     ("GTC numbers of SNPs", bounds::numbers_of_snps),

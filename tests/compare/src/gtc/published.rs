@@ -1,12 +1,11 @@
 //! The published samples with their published answers, asked of library and reader.
 
-use super::answers::{Snp, TransformationAnswer};
+use super::answers::{Snp, TransformationAnswer, SNP_NUMBERS};
 use super::draft::{listed_ids, GENOTYPES};
 use super::generate::{plain_file, snp_items, snp_of_code};
 use super::questions::{Answer, Question};
 use super::samples;
-use crate::answers::{Found, Listed, Verdict};
-use crate::format::Question as _;
+use crate::answers::{Found, Listed, Verdict, Written};
 use crate::groups::expect;
 use crate::program;
 use crate::report::Group;
@@ -71,7 +70,27 @@ fn no_snp(refusal: u64) -> Answer {
 }
 
 fn no_transformation(refusal: u64) -> Answer {
-    Answer::Transformation(TransformationAnswer::refused(refusal))
+    Answer::Transformation(TransformationAnswer::refused(refusal), [0; 12])
+}
+
+fn snps(first: u64, room: usize) -> Question {
+    Question::Snps { first, room }
+}
+
+fn no_snps(refusal: u64, room: usize) -> Answer {
+    Answer::Snps(Written::refused(refusal, room))
+}
+
+// These records at the front of the output, and nothing behind them.
+fn records(right: &[[u64; SNP_NUMBERS]], room: usize) -> Answer {
+    let right = right.concat();
+    Answer::Snps(Written::by(room, |out| {
+        out[..right.len()].copy_from_slice(&right);
+        Listed {
+            refusal: 0,
+            count: (right.len() / SNP_NUMBERS) as u64,
+        }
+    }))
 }
 
 fn no_bytes(group: &mut Group) {
@@ -86,7 +105,7 @@ fn no_bytes(group: &mut Group) {
         Question::Transformation(1),
         no_transformation(1),
     );
-    records(group, &[], (1, 1), &[]);
+    expect(group, &[], snps(1, 20), no_snps(1, 20));
 }
 
 fn no_entries(group: &mut Group) {
@@ -103,7 +122,7 @@ fn no_entries(group: &mut Group) {
         Question::Transformation(1),
         no_transformation(7),
     );
-    records(group, &file, (1, 7), &[]);
+    expect(group, &file, snps(1, 20), no_snps(7, 20));
 }
 
 fn one_value(group: &mut Group) {
@@ -152,26 +171,17 @@ fn forbidden_code(group: &mut Group) {
     expect(group, &file, Question::Snp(3), no_snp(11));
     expect(group, &file, Question::Snp(0), no_snp(12));
     expect(group, &file, Question::Snp(4), no_snp(12));
-    for first in [1, 2, 3] {
-        records(group, &file, (first, 11), &[]);
+    let four_letters = [0, 13, 4, 2, 65, 71, 0x3F00_0000, 258, 772];
+    let eight_b = [0, 45, 8, 8, 65, 71, 0x3F00_0000, 258, 772];
+    let forbidden = [11, 0, 0, 0, 0, 0, 0, 0, 0];
+    let file = plain_file(&snp_items(&[13, 46, 45].map(snp_of_code))).bytes();
+    let all = [four_letters, forbidden, eight_b];
+    for (first, room, count) in [(1, 30, 3), (1, 27, 3), (1, 26, 2), (2, 17, 1), (3, 9, 1)] {
+        let right = &all[first as usize - 1..][..count];
+        expect(group, &file, snps(first, room), records(right, room));
     }
-    records(group, &file, (4, 12), &[]);
-    let sound = plain_file(&snp_items(&[13, 45].map(snp_of_code))).bytes();
-    let eight_b = [45, 8, 8, 65, 71, 0x3F00_0000, 258, 772];
-    records(group, &sound, (2, 0), &eight_b);
-    let both = [[13, 4, 2, 65, 71, 0x3F00_0000, 258, 772], eight_b].concat();
-    records(group, &sound, (1, 0), &both);
-}
-
-// The records of the SNPs from a number on: the number and the refusal, then the numbers written.
-fn records(group: &mut Group, file: &[u8], (first, refusal): (u64, u64), right: &[u64]) {
-    let question = Question::Snps { first, room: 16 };
-    let count = right.len() as u64 / 8;
-    let listed = Listed { refusal, count };
-    for answer in [question.ask_library(file), question.ask_reader(file)] {
-        let holds = matches!(&answer, Answer::Snps(written)
-            if written.listed == listed && written.out.starts_with(right));
-        group.check(holds, file, || format!("{question:?}: {answer:?}"));
+    for (first, room, refusal) in [(1, 8, 13), (3, 0, 13), (0, 30, 12), (4, 0, 12)] {
+        expect(group, &file, snps(first, room), no_snps(refusal, room));
     }
 }
 

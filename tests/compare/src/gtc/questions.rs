@@ -1,13 +1,14 @@
 //! Calls with their arguments, asked of the library and of the reader alike.
 
-use super::answers::{Snp, TransformationAnswer};
+use super::answers::{Snp, TransformationAnswer, SNP_NUMBERS};
 use super::draft::{listed_ids, TRANSFORMATIONS};
 use super::generate::UNLISTED;
 use super::library;
-use super::reader::{self, SnpArrays, RECORD_NUMBERS};
+use super::reader::{self, SnpArrays};
 use crate::answers::{Found, Verdict, Written};
-use crate::arguments::{numbers_around, rooms, sample};
+use crate::arguments::{bulk_rooms, numbers_around, sample};
 use crate::format;
+use crate::little_endian::u32_at;
 
 #[derive(Clone, Copy, Debug)]
 pub enum Question {
@@ -24,7 +25,8 @@ pub enum Answer {
     Found(Found),
     Snp(Snp),
     Snps(Written<u64>),
-    Transformation(TransformationAnswer),
+    /// With the bits of the twelve floats, which the library tells by their place; 0 where refused.
+    Transformation(TransformationAnswer, [u32; 12]),
 }
 
 impl format::Answer for Answer {
@@ -41,7 +43,7 @@ impl format::Answer for Answer {
             Answer::Found(found) => found.refusal == 1,
             Answer::Snp(snp) => snp.refusal == 1,
             Answer::Snps(written) => written.is_cut_short(),
-            Answer::Transformation(answer) => answer.refusal == 1,
+            Answer::Transformation(answer, _) => answer.refusal == 1,
         }
     }
 }
@@ -60,7 +62,8 @@ impl format::Question for Question {
                 Answer::Snps(Written::by(room, call))
             }
             Question::Transformation(number) => {
-                Answer::Transformation(library::transformation(bytes, number))
+                let answer = library::transformation(bytes, number);
+                Answer::Transformation(answer, bits_at(bytes, &answer))
             }
         }
     }
@@ -75,14 +78,25 @@ impl format::Question for Question {
                 Answer::Snps(Written::by(room, call))
             }
             Question::Transformation(number) => {
-                Answer::Transformation(reader::transformation(bytes, number).into())
+                let answer = reader::transformation(bytes, number);
+                let bits = answer.map_or([0; 12], |placed| placed.bits);
+                Answer::Transformation(answer.into(), bits)
             }
         }
     }
+}
 
-    fn holds_from_extent(&self, _file: &[u8]) -> bool {
-        true
+// The bits of the floats, where the answer says that the transformation's bytes stand.
+fn bits_at(bytes: &[u8], answer: &TransformationAnswer) -> [u32; 12] {
+    let mut bits = [0; 12];
+    let place = answer.start as usize;
+    let fields = bytes.get(place..).and_then(|rest| rest.get(4..52));
+    if let (0, Some(fields)) = (answer.refusal, fields) {
+        for (slot, field) in bits.iter_mut().zip(fields.chunks_exact(4)) {
+            *slot = u32_at(field, 0);
+        }
     }
+    bits
 }
 
 /// Every call on the file: for all ids of the format, for others, and for every kind of number.
@@ -93,7 +107,7 @@ pub fn questions(bytes: &[u8], more: &[u16]) -> Vec<Question> {
     for number in numbers_around(snps as u64) {
         list.push(Question::Snp(number));
         let left = (snps as u64 + 1).saturating_sub(number.max(1)) as usize;
-        for room in rooms(RECORD_NUMBERS * left) {
+        for room in bulk_rooms(left, SNP_NUMBERS) {
             list.push(Question::Snps {
                 first: number,
                 room,

@@ -1,5 +1,6 @@
 //! A GTC reader written from the rules of the format alone.
 
+use super::answers::{self, SNP_NUMBERS};
 use crate::little_endian::{u16_at, u32_at};
 use crate::refusal::{Refusal, Refused};
 use std::ops::Range;
@@ -17,8 +18,6 @@ const SCORES: u16 = 1004;
 pub const HEADER_LENGTH: usize = 8;
 pub const ENTRY_LENGTH: usize = 6;
 pub const TRANSFORMATION_LENGTH: usize = 52;
-/// The numbers of a SNP's record.
-pub const RECORD_NUMBERS: usize = 8;
 
 /// A genotype's letters and how many of them are B, by its code; both are 0 for NC and NULL.
 const ALLELES: [[u8; 2]; 46] = alleles();
@@ -112,22 +111,6 @@ pub struct Snp {
     pub y: u16,
 }
 
-impl Snp {
-    /// The record as the bulk call writes it.
-    pub fn numbers(&self) -> [u64; RECORD_NUMBERS] {
-        [
-            self.code.into(),
-            self.ploidy.into(),
-            self.b_alleles.into(),
-            self.calls[0].into(),
-            self.calls[1].into(),
-            self.score_bits.into(),
-            self.x.into(),
-            self.y.into(),
-        ]
-    }
-}
-
 /// A version and twelve floats, laid out as in C.
 #[repr(C)]
 #[derive(Clone, Copy, Debug, Default)]
@@ -140,6 +123,15 @@ pub struct Transformation {
     pub shear: f32,
     pub theta: f32,
     pub reserved: [f32; 6],
+}
+
+/// A transformation with the place of its bytes, and with the bits of its floats, which a float
+/// does not keep for sure where they are those of a NaN.
+#[derive(Clone, Copy, Debug)]
+pub struct PlacedTransformation {
+    pub start: usize,
+    pub value: Transformation,
+    pub bits: [u32; 12],
 }
 
 // Takes the pieces of an item one after the other.
@@ -352,17 +344,16 @@ impl<'a> SnpArrays<'a> {
     /// The record of the SNP with this number, from one.
     pub fn snp(&self, number: u64) -> Result<Snp, Refusal> {
         let at = self.before(number)?;
-        let code = self.genotypes[at];
-        let calls = &self.base_calls[2 * at..2 * at + 2];
-        if usize::from(code) >= ALLELES.len() || !calls.iter().all(|&call| is_call(call)) {
-            return Err(Refusal::ForbiddenValue);
-        }
-        let score = &self.scores[4 * at..4 * at + 4];
-        let x = &self.x[2 * at..2 * at + 2];
-        let y = &self.y[2 * at..2 * at + 2];
-        Ok(record(code, calls, score, x, y))
+        record(
+            self.genotypes[at],
+            &self.base_calls[2 * at..2 * at + 2],
+            &self.scores[4 * at..4 * at + 4],
+            &self.x[2 * at..2 * at + 2],
+            &self.y[2 * at..2 * at + 2],
+        )
     }
 
+    // The arrays without the SNPs before this number, from one.
     fn from(&self, number: u64) -> Result<SnpArrays<'a>, Refusal> {
         let at = self.before(number)?;
         Ok(SnpArrays {
@@ -374,15 +365,7 @@ impl<'a> SnpArrays<'a> {
         })
     }
 
-    // Without an early way out, so that many bytes are tested at once.
-    fn are_sound(&self) -> bool {
-        let highest = self.genotypes.iter().fold(0, |high, &code| high.max(code));
-        let calls = self.base_calls.iter();
-        usize::from(highest) < ALLELES.len()
-            && calls.fold(true, |sound, &call| sound & is_call(call))
-    }
-
-    fn records(&self) -> impl Iterator<Item = Snp> + 'a {
+    fn records(&self) -> impl Iterator<Item = Result<Snp, Refusal>> + 'a {
         let calls = self.base_calls.chunks_exact(2);
         let scores = self.scores.chunks_exact(4);
         let x = self.x.chunks_exact(2);
@@ -396,10 +379,12 @@ fn is_call(letter: u8) -> bool {
     matches!(letter, b'A' | b'C' | b'G' | b'T' | b'-')
 }
 
-// The code is one that the format allows.
-fn record(code: u8, calls: &[u8], score: &[u8], x: &[u8], y: &[u8]) -> Snp {
+fn record(code: u8, calls: &[u8], score: &[u8], x: &[u8], y: &[u8]) -> Result<Snp, Refusal> {
+    if usize::from(code) >= ALLELES.len() || !is_call(calls[0]) || !is_call(calls[1]) {
+        return Err(Refusal::ForbiddenValue);
+    }
     let [ploidy, b_alleles] = ALLELES[usize::from(code)];
-    Snp {
+    Ok(Snp {
         code,
         ploidy,
         b_alleles,
@@ -407,7 +392,7 @@ fn record(code: u8, calls: &[u8], score: &[u8], x: &[u8], y: &[u8]) -> Snp {
         score_bits: u32_at(score, 0),
         x: u16_at(x, 0),
         y: u16_at(y, 0),
-    }
+    })
 }
 
 /// The record of the SNP with this number, from one.
@@ -415,40 +400,43 @@ pub fn snp(bytes: &[u8], number: u64) -> Result<Snp, Refusal> {
     SnpArrays::of(bytes)?.snp(number)
 }
 
-/// Writes the records of the SNPs from this number on to the front of `out`; returns how many.
+/// Writes the SNPs from this number on to the front of `out`, as many as are left and fit, each as
+/// reading it by itself would answer; returns how many.
 pub fn snps(bytes: &[u8], first: u64, out: &mut [u64]) -> Result<usize, Refusal> {
     let wanted = SnpArrays::of(bytes)?.from(first)?;
-    if !wanted.are_sound() {
-        return Err(Refusal::ForbiddenValue);
+    let count = wanted.count().min(out.len() / SNP_NUMBERS);
+    if count == 0 {
+        return Err(Refusal::OutputTooSmall);
     }
-    let front = out.get_mut(..RECORD_NUMBERS * wanted.count());
-    let front = front.ok_or(Refusal::OutputTooSmall)?;
-    let slots = front.chunks_exact_mut(RECORD_NUMBERS);
+    let slots = out.chunks_exact_mut(SNP_NUMBERS);
     for (slot, snp) in slots.zip(wanted.records()) {
-        slot.copy_from_slice(&snp.numbers());
+        slot.copy_from_slice(&answers::Snp::from(snp).numbers());
     }
-    Ok(wanted.count())
+    Ok(count)
 }
 
 /// The transformation with this number, from one.
-pub fn transformation(bytes: &[u8], number: u64) -> Result<Transformation, Refusal> {
+pub fn transformation(bytes: &[u8], number: u64) -> Result<PlacedTransformation, Refusal> {
     let item = lookup(bytes, TRANSFORMATIONS)?;
     if number == 0 || number > item.count {
         return Err(Refusal::NoSuchElement);
     }
     let start = item.part.start + TRANSFORMATION_LENGTH * (number as usize - 1);
     let fields = &bytes[start..start + TRANSFORMATION_LENGTH];
-    let float = |index: usize| f32::from_bits(u32_at(fields, 4 * index));
-    Ok(Transformation {
+    let bits = [1, 2, 3, 4, 5, 6, 7, 8, 9, 10, 11, 12].map(|index| u32_at(fields, 4 * index));
+    let [offset_x, offset_y, scale_x, scale_y, shear, theta, reserved @ ..] =
+        bits.map(f32::from_bits);
+    let value = Transformation {
         version: u32_at(fields, 0) as i32,
-        offset_x: float(1),
-        offset_y: float(2),
-        scale_x: float(3),
-        scale_y: float(4),
-        shear: float(5),
-        theta: float(6),
-        reserved: [7, 8, 9, 10, 11, 12].map(float),
-    })
+        offset_x,
+        offset_y,
+        scale_x,
+        scale_y,
+        shear,
+        theta,
+        reserved,
+    };
+    Ok(PlacedTransformation { start, value, bits })
 }
 
 /// Normalised intensities, with the cosine and the sine of the transformation's theta.

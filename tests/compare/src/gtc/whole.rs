@@ -1,5 +1,6 @@
 //! Files without a fault, made for one thing each.
 
+use super::answers::{self, SNP_NUMBERS};
 use super::draft::{
     element_size, Draft, BLOCKS, NUMBER_OF_SNPS, SCANNER, SNP_ARRAYS, TEXTS, TRANSFORMATIONS,
     VALUES,
@@ -8,7 +9,7 @@ use super::generate::{
     array, long_file, plain_file, random_file, random_snp, random_snps, scanner, snp_items,
     snp_of_code, text, transformation, Content, Snp,
 };
-use super::reader::{self, ENTRY_LENGTH, HEADER_LENGTH, RECORD_NUMBERS};
+use super::reader::{self, ENTRY_LENGTH, HEADER_LENGTH, TRANSFORMATION_LENGTH};
 use super::Gtc;
 use crate::floats::SINGLES;
 use crate::groups::whole::compare_whole;
@@ -106,12 +107,27 @@ pub fn numbers(group: &mut Group) {
             let mut floats = [0x3F80_0000; 12];
             floats[field] = bits;
             for version in [1, 0, -1, i32::MIN, i32::MAX, 0x0102_0304] {
-                let plain = transformation(1, [0x4000_0000; 12]);
-                let elements = [plain, transformation(version, floats), plain];
-                compare_whole::<Gtc>(group, &plain_file(&[(TRANSFORMATIONS, array(elements))]));
+                second_transformation(group, version, floats);
             }
         }
     }
+}
+
+// Between two others, at the table's end behind a count and the first of them.
+fn second_transformation(group: &mut Group, version: i32, floats: [u32; 12]) {
+    let plain = transformation(1, [0x4000_0000; 12]);
+    let elements = [plain, transformation(version, floats), plain];
+    let draft = plain_file(&[(TRANSFORMATIONS, array(elements))]);
+    compare_whole::<Gtc>(group, &draft);
+    let bytes = draft.bytes();
+    let found = reader::transformation(&bytes, 2);
+    let start = HEADER_LENGTH + ENTRY_LENGTH + 4 + TRANSFORMATION_LENGTH;
+    let holds = found.is_ok_and(|found| {
+        found.start == start && found.value.version == version && found.bits == floats
+    });
+    group.check(holds, &bytes, || {
+        format!("reader {found:?}, built from {floats:?} at {start}")
+    });
 }
 
 /// Tables up to the longest, and more SNPs than 8 and than 16 bits count.
@@ -165,7 +181,7 @@ fn check_parts(group: &mut Group, draft: &Draft) {
     }
 }
 
-// The records read at once are those read one by one, up to a forbidden one that refuses them all.
+// The records read at once, from every number on, are those read one by one.
 fn check_records(group: &mut Group, snps: &[Snp]) {
     let bytes = plain_file(&snp_items(snps)).bytes();
     let mut single = Vec::new();
@@ -178,18 +194,15 @@ fn check_records(group: &mut Group, snps: &[Snp]) {
         group.check(holds, &bytes, || {
             format!("reader {found:?}, built from {built:?}")
         });
-        single.push(found.map(|snp| snp.numbers()));
+        single.extend(answers::Snp::from(found).numbers());
     }
-    let mut out = vec![0; RECORD_NUMBERS * snps.len()];
-    for (number, rest) in (1..).zip((0..snps.len()).map(|skipped| &single[skipped..])) {
-        let written = reader::snps(&bytes, number, &mut out);
-        let rest: Result<Vec<_>, _> = rest.iter().copied().collect();
-        let holds = match (&written, &rest) {
-            (Ok(count), Ok(rest)) => *count == rest.len() && out.starts_with(&rest.concat()),
-            (written, rest) => written.as_ref().err() == rest.as_ref().err(),
-        };
+    for skipped in 0..snps.len() {
+        let mut out = vec![0; single.len()];
+        let rest = &single[SNP_NUMBERS * skipped..];
+        let written = reader::snps(&bytes, skipped as u64 + 1, &mut out);
+        let holds = written == Ok(snps.len() - skipped) && out.starts_with(rest);
         group.check(holds, &bytes, || {
-            format!("from SNP {number}: at once {written:?}, one by one {rest:?}")
+            format!("behind SNP {skipped}: at once {written:?}, one by one {rest:?}")
         });
     }
 }

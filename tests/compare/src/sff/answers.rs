@@ -3,6 +3,9 @@
 use super::reader::{self, FIXED_HEADER};
 use crate::refusal::Refusal;
 
+/// How many numbers the bulk call writes for a read.
+pub const READ_NUMBERS: usize = 17;
+
 #[repr(C)]
 #[derive(Clone, Copy, Debug, Default, PartialEq, Eq)]
 pub struct Header {
@@ -130,6 +133,29 @@ impl Read {
             refusal,
             ..Read::default()
         }
+    }
+
+    /// The fields in their order, as the bulk call writes them.
+    pub fn numbers(&self) -> [u64; READ_NUMBERS] {
+        [
+            self.refusal,
+            self.start,
+            self.name_start,
+            self.name_length,
+            self.bases,
+            self.quality_left,
+            self.quality_right,
+            self.adapter_left,
+            self.adapter_right,
+            self.flows_start,
+            self.steps_start,
+            self.letters_start,
+            self.qualities_start,
+            self.first,
+            self.last,
+            self.insert_start,
+            self.insert_length,
+        ]
     }
 }
 

@@ -1,6 +1,7 @@
 //! SFF: its reader, its writer, its files and its calls.
 
 pub mod answers;
+mod bulk;
 mod damage;
 pub mod draft;
 pub mod generate;
@@ -25,7 +26,7 @@ use draft::Draft;
 use questions::Question;
 use std::ops::Range;
 
-pub const GROUPS: [(&str, Run); 16] = [
+pub const GROUPS: [(&str, Run); 17] = [
     ("SFF published samples", published::samples),
     ("SFF names and sizes", whole::names_and_sizes),
     ("SFF index at every boundary", whole::index_places),
@@ -34,6 +35,7 @@ pub const GROUPS: [(&str, Run); 16] = [
     ("SFF lengths at their bounds", whole::lengths),
     ("SFF long files", whole::long_files),
     ("SFF parts as built", whole::parts),
+    ("SFF reads at once", bulk::reads),
     ("SFF whole files", random_files::<Sff>),
     ("SFF one rule broken", damaged::single_changes::<Sff>),
     ("SFF two rules broken", damaged::pairs::<Sff>),

@@ -1,10 +1,9 @@
 //! The published samples with their published answers, asked of library and reader.
 
-use super::answers::{Flow, Header, Read};
+use super::answers::{Flow, Header, Read, READ_NUMBERS};
 use super::questions::{Answer, Question};
 use super::samples;
-use crate::answers::{Listed, Verdict};
-use crate::format::Question as _;
+use crate::answers::{Listed, Verdict, Written};
 use crate::groups::expect;
 use crate::program;
 use crate::report::Group;
@@ -28,6 +27,14 @@ fn no_read(refusal: u64) -> Answer {
     Answer::Read(Read::refused(refusal))
 }
 
+fn reads(first: u64, room: usize) -> Question {
+    Question::Reads { first, room }
+}
+
+fn no_reads_of(refusal: u64, room: usize) -> Answer {
+    Answer::Reads(Written::refused(refusal, room))
+}
+
 fn flow(number: u64, base: u64) -> Question {
     Question::FlowOfBase { number, base }
 }
@@ -45,9 +52,8 @@ fn no_bytes(group: &mut Group) {
     expect(group, &[], Question::Judge, refused(1, 0));
     expect(group, &[], Question::Header, Answer::Header(header));
     expect(group, &[], Question::Read(1), no_read(1));
-    expect(group, &[], Question::ReadAt(0), no_read(1));
     expect(group, &[], flow(1, 1), flow_answer(1, 0));
-    places(group, &[], (1, 1), &[]);
+    expect(group, &[], reads(1, 40), no_reads_of(1, 40));
 }
 
 fn no_reads(group: &mut Group) {
@@ -65,13 +71,13 @@ fn no_reads(group: &mut Group) {
     expect(group, &file, Question::Header, Answer::Header(header));
     expect(group, &file, Question::Read(1), no_read(7));
     expect(group, &file[..39], Question::Judge, refused(1, 0));
-    places(group, &file, (1, 7), &[]);
+    expect(group, &file, reads(1, 40), no_reads_of(7, 40));
 }
 
 fn one_read(group: &mut Group) {
     group.input();
     let file = samples::one_read();
-    let read = Answer::Read(Read {
+    let read = Read {
         refusal: 0,
         start: 40,
         name_start: 56,
@@ -89,29 +95,26 @@ fn one_read(group: &mut Group) {
         last: 3,
         insert_start: 76,
         insert_length: 2,
-    });
+    };
     expect(group, &file, Question::Judge, whole(88));
-    expect(group, &file, Question::Read(1), read.clone());
-    expect(group, &file, Question::ReadAt(40), read);
+    expect(group, &file, Question::Read(1), Answer::Read(read));
     expect(group, &file, Question::Read(2), no_read(7));
     expect(group, &file, flow(1, 1), flow_answer(0, 1));
     expect(group, &file, flow(1, 3), flow_answer(0, 3));
     expect(group, &file, flow(1, 4), flow_answer(12, 0));
     expect(group, &file[..87], Question::Judge, refused(1, 1));
-    places(group, &file, (1, 0), &[40]);
-    places(group, &file, (2, 7), &[]);
-}
-
-// Where the reads from a number on start: the number and the refusal, then the places.
-fn places(group: &mut Group, file: &[u8], (first, refusal): (u64, u64), right: &[u64]) {
-    let question = Question::Places { first, room: 2 };
-    let count = right.len() as u64;
-    let listed = Listed { refusal, count };
-    for answer in [question.ask_library(file), question.ask_reader(file)] {
-        let holds = matches!(&answer, Answer::Places(places)
-            if places.listed == listed && places.out.starts_with(right));
-        group.check(holds, file, || format!("{question:?}: {answer:?}"));
-    }
+    let written = Answer::Reads(Written::by(40, |out| {
+        out[..READ_NUMBERS]
+            .copy_from_slice(&[0, 40, 56, 5, 3, 2, 0, 0, 0, 64, 72, 75, 78, 2, 3, 76, 2]);
+        Listed {
+            refusal: 0,
+            count: 1,
+        }
+    }));
+    expect(group, &file, reads(1, 40), written);
+    expect(group, &file, reads(1, 16), no_reads_of(13, 16));
+    expect(group, &file, reads(2, 40), no_reads_of(7, 40));
+    expect(group, &file[..87], reads(1, 40), no_reads_of(1, 40));
 }
 
 fn program_lines(group: &mut Group) {

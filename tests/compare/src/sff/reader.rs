@@ -1,5 +1,6 @@
 //! An SFF reader written from the rules of the format alone.
 
+use super::answers::{self, READ_NUMBERS};
 use crate::big_endian::{u16_at, u32_at, u64_at};
 use crate::refusal::{Refusal, Refused};
 use std::ops::Range;
@@ -132,7 +133,7 @@ impl<'a> Walk<'a> {
 }
 
 fn frame_at(bytes: &[u8], start: usize, flows: u16) -> Result<Frame<'_>, Refusal> {
-    let rest = bytes.get(start..).ok_or(Refusal::CutShort)?;
+    let rest = &bytes[start..];
     let fixed = rest.get(..FIXED_READ_HEADER).ok_or(Refusal::CutShort)?;
     let header_length = usize::from(u16_at(fixed, 0));
     let name_length = usize::from(u16_at(fixed, 2));
@@ -181,13 +182,6 @@ pub fn read(bytes: &[u8], number: u64) -> Result<Read, Refusal> {
     }
     let frame = walk.next()?;
     contents(bytes, &frame, walk.header.flows)
-}
-
-/// The read that starts at this place, whether or not a walk comes there.
-pub fn read_at(bytes: &[u8], start: u64) -> Result<Read, Refusal> {
-    let flows = header(bytes)?.flows;
-    let start = usize::try_from(start).map_err(|_| Refusal::CutShort)?;
-    contents(bytes, &frame_at(bytes, start, flows)?, flows)
 }
 
 /// Visits all reads in one walk, each as reading it by itself would answer.
@@ -262,22 +256,27 @@ fn sum(steps: &[u8]) -> u64 {
     sums.sum()
 }
 
-/// Writes where the reads from this number on start to the front of `out`; returns how many.
-pub fn places(bytes: &[u8], first: u64, out: &mut [u64]) -> Result<usize, Refusal> {
+/// Writes the reads from this number on to the front of `out`, as many as are left and fit, each as
+/// reading it by itself would answer; returns how many.
+pub fn reads(bytes: &[u8], first: u64, out: &mut [u64]) -> Result<usize, Refusal> {
     let mut walk = Walk::begin(bytes)?;
     if !walk.has_read(first) {
         return Err(Refusal::NotThere);
     }
-    let mut found = Vec::new();
-    for _ in 0..walk.header.reads {
-        found.push(walk.next()?.start as u64);
+    let left = u64::from(walk.header.reads) + 1 - first;
+    let count = left.min((out.len() / READ_NUMBERS) as u64);
+    if count == 0 {
+        return Err(Refusal::OutputTooSmall);
     }
-    let wanted = &found[first as usize - 1..];
-    let front = out.get_mut(..wanted.len());
-    front
-        .ok_or(Refusal::OutputTooSmall)?
-        .copy_from_slice(wanted);
-    Ok(wanted.len())
+    for _ in 1..first {
+        walk.next()?;
+    }
+    let frames: Result<Vec<Frame>, Refusal> = (0..count).map(|_| walk.next()).collect();
+    for (slot, frame) in out.chunks_exact_mut(READ_NUMBERS).zip(&frames?) {
+        let read = contents(bytes, frame, walk.header.flows);
+        slot.copy_from_slice(&answers::Read::from(read).numbers());
+    }
+    Ok(count as usize)
 }
 
 /// Where the reads start, as far as the walk comes without a refusal.

@@ -1,11 +1,13 @@
 //! Files made for one thing each, without a fault but where lengths do not fit their fields.
 
+use super::answers::{self, READ_NUMBERS};
 use super::draft::{Draft, Index, Read};
 use super::generate::{instrument_file, long_file, raise, random_file};
 use super::{reader, Sff};
 use crate::groups::damaged::compare_changed;
 use crate::groups::whole::compare_whole;
 use crate::random::Random;
+use crate::refusal::Refusal;
 use crate::report::Group;
 
 const FILES_WITH_PARTS: usize = 2000;
@@ -136,7 +138,7 @@ pub fn long_files(group: &mut Group) {
     compare_whole::<Sff>(group, &Draft::new(0, 0, reads, None));
 }
 
-/// The reader finds the very parts that a file was made of, by number, by place and in one walk.
+/// The reader finds the very parts that a file was made of, by number, in one walk and at once.
 pub fn parts(group: &mut Group) {
     let mut random = Random::new(14);
     for _ in 0..FILES_WITH_PARTS {
@@ -148,17 +150,33 @@ pub fn parts(group: &mut Group) {
         let places = draft.layout().reads;
         let all = walk.is_ok() && walked.len() == places.len() && reader::reached(&bytes) == places;
         group.check(all, &bytes, || format!("reads built at {places:?}"));
-        for (index, (read, built)) in walked.iter().zip(&draft.reads).enumerate() {
-            let by_number = reader::read(&bytes, index as u64 + 1);
-            let by_place = reader::read_at(&bytes, places[index] as u64);
-            group.check(*read == by_number && *read == by_place, &bytes, || {
-                format!("by walk {read:?}, by number {by_number:?}, by place {by_place:?}")
+        for ((number, read), built) in (1..).zip(&walked).zip(&draft.reads) {
+            let by_number = reader::read(&bytes, number);
+            group.check(*read == by_number, &bytes, || {
+                format!("by walk {read:?}, by number {by_number:?}")
             });
             if let Ok(read) = read {
                 check_parts(group, &bytes, read, built);
             }
         }
+        let records = walked.into_iter().map(answers::Read::from);
+        let numbers: Vec<u64> = records.flat_map(|read| read.numbers()).collect();
+        check_at_once(group, &bytes, &numbers);
     }
+}
+
+// All reads of the file, as these numbers.
+fn check_at_once(group: &mut Group, bytes: &[u8], numbers: &[u64]) {
+    let mut out = vec![0; numbers.len()];
+    let written = reader::reads(bytes, 1, &mut out);
+    let count = numbers.len() / READ_NUMBERS;
+    let holds = match count {
+        0 => written == Err(Refusal::NotThere),
+        _ => written == Ok(count) && out == numbers,
+    };
+    group.check(holds, bytes, || {
+        format!("at once {written:?} {out:?}, by walk {numbers:?}")
+    });
 }
 
 fn check_parts(group: &mut Group, bytes: &[u8], read: &reader::Read, built: &Read) {

@@ -35,6 +35,8 @@ pub fn list_and_show(group: &mut Group) {
     inputs.extend(cuts(&[run]));
     inputs.extend(cuts(&sff::files::runs()[..4]));
     inputs.extend(cuts(&gtc::files::files()[..1]));
+    let many = sff::files::many_reads().into_iter();
+    inputs.extend(many.map(|bytes| Input::new("many reads", bytes)));
     let scratch = Scratch::new();
     let findings = workers::each(inputs.len(), |worker, index| {
         let bytes = &inputs[index].bytes;

@@ -2,6 +2,11 @@
 
 use compare::sff::draft::{Draft, Index, Read};
 
+/// How many reads the viewer asks for at once, more than these, and some.
+const AT_ONCE: usize = 65_536;
+const MANY: usize = 70_000;
+const SOME: usize = 11;
+
 /// Runs to be cut: with the index before, between and behind the reads, with none, with many flows.
 pub fn runs() -> Vec<Vec<u8>> {
     let index = |behind| Some(Index::new(behind, b"an index"));
@@ -13,6 +18,41 @@ pub fn runs() -> Vec<Vec<u8>> {
         Draft::new(0, 4, vec![Read::new(b"no flows", 0, &[])], None).bytes(),
         many_flows(),
     ]
+}
+
+/// More reads than the viewer asks for at once, or some, with the index cut at a boundary, never met,
+/// or not there, and with a read that is cut or refused.
+pub fn many_reads() -> Vec<Vec<u8>> {
+    let mut files: Vec<Vec<u8>> = (0..=SOME)
+        .map(|behind| cut_in_the_index(SOME, behind))
+        .collect();
+    for behind in [AT_ONCE - 1, AT_ONCE, AT_ONCE + 1, MANY - 1, MANY] {
+        files.push(cut_in_the_index(MANY, behind));
+    }
+    let plain = small_reads(MANY, None);
+    let mut never_met = small_reads(MANY, Some(Index::new(MANY, b"an index")));
+    never_met.index_offset -= 1;
+    let mut refused = plain.clone();
+    for index in [0, AT_ONCE - 1, AT_ONCE, MANY - 1] {
+        refused.reads[index].clips[0] = 1;
+    }
+    for missing in [1, AT_ONCE - 1, AT_ONCE, AT_ONCE + 1] {
+        let mut bytes = refused.bytes();
+        bytes.truncate(refused.layout().reads[missing] + 15);
+        files.push(bytes);
+    }
+    files.extend([plain, never_met, refused].iter().map(Draft::bytes));
+    files
+}
+
+fn cut_in_the_index(count: usize, behind: usize) -> Vec<u8> {
+    let draft = small_reads(count, Some(Index::new(behind, b"an index")));
+    let end = draft.index_offset as usize + 3;
+    draft.bytes()[..end].to_vec()
+}
+
+fn small_reads(count: usize, index: Option<Index>) -> Draft {
+    Draft::new(0, 0, vec![Read::new(b"", 0, &[]); count], index)
 }
 
 // Clipped on both sides, with no bases, and with nothing left between the clips.

@@ -1,7 +1,8 @@
 use Prim.Native.Nat.{_+_, _-_}
 use mathlib.Core.Path.{_∙_}
 use native.Mathlib.Omega.{arith}
-use Rattle.abif.proofs.text.Laws.{zero-window, c-bad, c-inner, c-good}
+use Rattle.contents.proofs.text.Laws.{zero-window}
+use Rattle.abif.proofs.text.Laws.{c-bad, c-inner, c-good}
 use borrow.Author.Needs.{needs}
 use Rattle.abif.proofs.text.c_string.Statement.{statement}
 use Rattle.abif.proofs.text.c_string.Tie as tie

@@ -3,6 +3,7 @@ use mathlib.Core.Path.{_∙_}
 use native.Mathlib.Omega.{arith}
 use mir.Syntax.{w16, w32}
 use Rattle.reading.proofs.Signs.{field-is}
+use Rattle.abif.specs.Entry.{entryOf}
 use Rattle.abif_file.specs.Entry.{rawEntry}
 use Rattle.abif_file.proofs.entry.Laws.{raw-part}
 use borrow.Author.Needs.{needs}
@@ -73,7 +74,7 @@ signed32-requires-5 : tie.Need-signed32-requires-5
 signed32-requires-5 c κs = search needs
 
 returns : tie.Need-returns
-unfolding rawEntry
+unfolding rawEntry entryOf
 returns c =
     let o = c .before .before in
     let s = o .before .before in

@@ -6,8 +6,9 @@ use super::list::List;
 use crate::abif::draft::LISTED_CODES;
 use crate::abif::generate::Content;
 use crate::abif::reader::Tag;
-use crate::abif::samples;
-use crate::abif::writer::element_size;
+use crate::abif::writer::{self, element_size};
+use crate::abif::{library, samples};
+use crate::answers::Finished;
 use crate::output::Output;
 use crate::random::Random;
 use crate::report::Group;
@@ -21,14 +22,7 @@ fn shorts(numbers: &[u8]) -> Content {
 
 /// W2 from its item, a month 13, and no items at all, which give a header alone.
 pub fn published(group: &mut Group) {
-    let list = List::numbered(vec![shorts(&[0x00, 0x01, 0xFF, 0xFE])]);
-    expect(group, &list, 156, 0);
-    expect(group, &list, 155, 13);
-    let mut out = Output::new(156);
-    let answer = crate::abif::library::write(&list.lent(), out.lent());
-    let file = samples::one_inline_item();
-    let same = answer.length == 156 && out.lent() == file;
-    group.check(same, out.bytes(), || format!("not W2: {answer:?}"));
+    one_inline_item(group);
     let date = Content::listed(10, vec![0x07, 0xD6, 13, 1]);
     expect(group, &List::numbered(vec![date]), 200, 11);
     for room in 0..=130 {
@@ -40,6 +34,29 @@ pub fn published(group: &mut Group) {
         ..List::default()
     };
     expect(group, &unused, 128, 0);
+}
+
+// W2's bytes, by the library and by the writer, in just the room that they take.
+fn one_inline_item(group: &mut Group) {
+    let list = List::numbered(vec![shorts(&[0x00, 0x01, 0xFF, 0xFE])]);
+    expect(group, &list, 156, 0);
+    expect(group, &list, 155, 13);
+    let mut outputs = [Output::new(156), Output::new(156)];
+    let [ours, plain] = &mut outputs;
+    let answers = [
+        library::write(&list.lent(), ours.lent()),
+        writer::write(&list.lent(), plain.lent()).into(),
+    ];
+    let written = Finished {
+        refusal: 0,
+        length: 156,
+    };
+    for (answer, out) in answers.iter().zip(&mut outputs) {
+        let same = *out.lent() == samples::one_inline_item() && out.is_untouched_from(156);
+        group.check(same && *answer == written, out.bytes(), || {
+            format!("not W2: {answer:?}")
+        });
+    }
 }
 
 /// Every type code there is, alone and behind another item.

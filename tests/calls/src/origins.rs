@@ -1,0 +1,97 @@
+//! Where the names of a file come from, and the definitions that its texts hand to `answer`.
+
+use crate::words::{group, last, words};
+use std::collections::BTreeMap;
+use std::fmt;
+
+/// The module that defines a name, without the words that all paths have, and its name there.
+#[derive(Clone, Debug, PartialEq, Eq, PartialOrd, Ord)]
+pub struct Origin {
+    pub module: String,
+    pub name: String,
+}
+
+impl fmt::Display for Origin {
+    fn fmt(&self, f: &mut fmt::Formatter) -> fmt::Result {
+        write!(f, "{}.{}", self.module, self.name)
+    }
+}
+
+/// A file's names for what it uses from other modules.
+pub struct Origins {
+    own: String,
+    used: BTreeMap<String, Origin>,
+}
+
+impl Origins {
+    /// Of a file without its comments, which is this module itself.
+    pub fn of(text: &str, own: &str) -> Origins {
+        let mut used = BTreeMap::new();
+        let words = words(text);
+        for (place, word) in words.iter().enumerate() {
+            if let ("use", [path, "{", ..]) = (*word, &words[place + 1..]) {
+                add(path, group(&words[place + 2..]), &mut used);
+            }
+        }
+        let own = own.to_string();
+        Origins { own, used }
+    }
+
+    /// Of a name that the file does not use from elsewhere, the file itself.
+    pub fn origin(&self, name: &str) -> Origin {
+        let own = || Origin {
+            module: self.own.clone(),
+            name: name.to_string(),
+        };
+        self.used.get(name).cloned().unwrap_or_else(own)
+    }
+
+    /// The definitions that are handed to `answer`, each once.
+    pub fn answered(&self, words: &[&str]) -> Vec<Origin> {
+        let mut found = Vec::new();
+        for (place, word) in words.iter().enumerate() {
+            if self.origin(word).name == "answer" {
+                let behind = &words[place + 1..];
+                found.extend(match behind.first() {
+                    Some(&"(") => self.definition(group(behind)),
+                    Some(word) => Some(self.origin(word)),
+                    None => None,
+                });
+            }
+        }
+        found.sort();
+        found.dedup();
+        found
+    }
+
+    /// The definition that stands in front; a call of an opened file is the call behind it.
+    pub fn definition(&self, words: &[&str]) -> Option<Origin> {
+        let head = match words.first()? {
+            &"(" => return self.definition(group(words)),
+            head => self.origin(head),
+        };
+        if head.name == "ofOpened" && words.len() > 1 {
+            return self.definition(last(words));
+        }
+        Some(head)
+    }
+}
+
+// The names that are used from a path, some of them followed by `as` and the file's own name.
+fn add(path: &str, names: &[&str], used: &mut BTreeMap<String, Origin>) {
+    for name in names.split(|word| *word == ",") {
+        if let [original, .., local] | [original @ local] = name {
+            let origin = Origin {
+                module: module(path),
+                name: original.to_string(),
+            };
+            used.insert(local.to_string(), origin);
+        }
+    }
+}
+
+// A crate's own files call its definitions `Rattle.NAME.specs.`, all others `Rattle.NAME.specs.`.
+fn module(path: &str) -> String {
+    let path = path.trim_end_matches('.').trim_start_matches("Rattle·");
+    path.replace("·specs", "").replace(".specs.", ".")
+}
