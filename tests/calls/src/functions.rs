@@ -1,6 +1,6 @@
 //! The public functions of a crate: whether each is lent bytes, and what its promise cites.
 
-use crate::origins::{Origin, Origins};
+use crate::origins::{Origin, Origins, OF_OPENED};
 use crate::sources::Sources;
 use crate::words::{group, without_comments, words};
 use std::collections::BTreeSet;
@@ -14,6 +14,10 @@ pub struct Function {
     /// With the crate and the module in front, but for a C function.
     pub name: String,
     pub is_lent_bytes: bool,
+    /// It is given the place that an opened file carries, or the opened file itself.
+    pub is_given_a_place: bool,
+    /// Its promise is of an opened file.
+    pub is_of_opened: bool,
     /// The definitions whose answers the promise speaks of.
     pub cited: Vec<Origin>,
 }
@@ -56,14 +60,16 @@ fn before_generics(name: &str) -> &str {
     name.split('<').next().unwrap_or(name)
 }
 
+fn names<'a>(words: &'a [&str]) -> impl Iterator<Item = &'a str> {
+    let is_name_sign = |sign: char| sign.is_alphanumeric() || sign == '_';
+    words
+        .iter()
+        .flat_map(move |word| word.split(move |sign| !is_name_sign(sign)))
+}
+
 // A slice of bytes is among these types, or one of the holders.
 fn hold_bytes(types: &[&str], holders: &BTreeSet<String>) -> bool {
-    let is_name_sign = |sign: char| sign.is_alphanumeric() || sign == '_';
-    let names = types
-        .iter()
-        .flat_map(|word| word.split(|sign| !is_name_sign(sign)));
-    types.windows(3).any(|three| three == BYTES)
-        || names.into_iter().any(|name| holders.contains(name))
+    types.windows(3).any(|three| three == BYTES) || names(types).any(|name| holders.contains(name))
 }
 
 /// The public functions of a crate.
@@ -102,10 +108,16 @@ impl File<'_> {
             let opening = rest.iter().position(|word| *word == "(").unwrap_or(0);
             let closing = opening + group(&rest[opening..]).len() + 1;
             let (parameters, behind) = rest.split_at(closing.min(rest.len()));
+            let promise = promise(behind);
             found.push(Function {
                 name: self.name(before_generics(name)),
                 is_lent_bytes: hold_bytes(parameters, holders),
-                cited: self.cited(&promise(behind)),
+                is_given_a_place: names(parameters)
+                    .any(|name| name == "place" || holders.contains(name)),
+                is_of_opened: promise
+                    .iter()
+                    .any(|word| self.origins.origin(word).name == OF_OPENED),
+                cited: self.cited(&promise),
             });
         }
     }

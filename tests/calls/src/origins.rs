@@ -4,6 +4,9 @@ use crate::words::{group, last, words};
 use std::collections::BTreeMap;
 use std::fmt;
 
+/// The definition that makes a call one of an opened file.
+pub const OF_OPENED: &str = "ofOpened";
+
 /// The module that defines a name, without the words that all paths have, and its name there.
 #[derive(Clone, Debug, PartialEq, Eq, PartialOrd, Ord)]
 pub struct Origin {
@@ -70,7 +73,7 @@ impl Origins {
             &"(" => return self.definition(group(words)),
             head => self.origin(head),
         };
-        if head.name == "ofOpened" && words.len() > 1 {
+        if head.name == OF_OPENED && words.len() > 1 {
             return self.definition(last(words));
         }
         Some(head)

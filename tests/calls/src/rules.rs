@@ -137,6 +137,13 @@ fn check_definition(function: &Function, naming: &Naming, report: &mut Report) {
     let Some(due) = naming.definition else {
         return;
     };
+    report.check(function.is_given_a_place == function.is_of_opened, || {
+        let (given, promised) = match function.is_of_opened {
+            true => ("is given no opened file's place", "is of one"),
+            false => ("is given an opened file's place", "is not of it"),
+        };
+        format!("{}: it {given}, but its ensures {promised}", function.name)
+    });
     let cited: Vec<String> = function.cited.iter().map(Origin::to_string).collect();
     report.check(function.cited == std::slice::from_ref(due), || {
         let cited = if cited.is_empty() {

@@ -136,7 +136,7 @@ const NEW_CALLS: [Change; 11] = [
 ];
 
 /// Calls whose promise cites another definition than their constructor has.
-const OTHER_DEFINITIONS: [Change; 12] = [
+const OTHER_DEFINITIONS: [Change; 15] = [
     (
         JUDGE,
         "answer judging",
@@ -178,6 +178,24 @@ const OTHER_DEFINITIONS: [Change; 12] = [
         "ofOpened place count (lookingUp name)",
         "ofOpened place count (listing name)",
         &["toy_file::opened::lookup: its ensures cites toy_file.listing, but constructor lookup in Toy.antt is toy.Lookup.lookingUp"],
+    ),
+    (
+        OPENED,
+        "ofOpened place count (lookingUp name)",
+        "lookingUp name",
+        &["toy_file::opened::lookup: it is given an opened file's place, but its ensures is not of it"],
+    ),
+    (
+        FILE,
+        "answer (ofOpened (f .entry .place) (f .entry .count) (lookingUp name))",
+        "answer (lookingUp name)",
+        &["toy_file::file::lookup: it is given an opened file's place, but its ensures is not of it"],
+    ),
+    (
+        CAPI,
+        "answer (lookingUp name)",
+        "answer (ofOpened 0 0 (lookingUp name))",
+        &["jt_toy_lookup: it is given no opened file's place, but its ensures is of one"],
     ),
     (
         FILE_SPEC,
