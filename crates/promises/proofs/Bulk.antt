@@ -17,9 +17,9 @@ use Rattle.sff.specs.Lookup.{readReading}
 use Rattle.sff.specs.Reads.{readNumbers}
 use Rattle.sff.proofs.reads.Laws.{record-wide}
 use Rattle.sff.proofs.reads.Numbered.{many-fit, many-items, many-own, many-all, many-full}
-use Rattle.gtc.specs.declared.snp.Snp.{Snp}
 use Rattle.gtc.specs.Snp.{snpReading}
 use Rattle.gtc.specs.Snps.{snpNumbers}
+use Rattle.gtc.proofs.snps.Laws as Snps
 use Rattle.gtc.proofs.snps.Numbered as Gtc
 use Rattle.promises.specs.Bulk.{Bulk, told, Told, ByTheRule, wholeNumber, Name, wholeNumbers, reads, snps, bulkOf, BulkRule}
 
@@ -43,10 +43,6 @@ reads-rule =
       full = many-full;
     }
 
-snp-wide : (a : Answer Snp) → length (recordOf 9 snpNumbers a) ≡ 9
-snp-wide (ok r) = refl
-snp-wide (refused n e) = refl
-
 snps-rule : ByTheRule (bulkOf snps)
 snps-rule =
     record {
@@ -56,7 +52,7 @@ snps-rule =
             some = k .0;
             fit = k .1;
             all = Gtc.many-all s first room v w;
-            each = λ j h. (Gtc.many-own s first room v w j h, snp-wide (answer (snpReading (first + j)) s));
+            each = λ j h. (Gtc.many-own s first room v w j h, Snps.record-wide (answer (snpReading (first + j)) s));
             items = ap (records 9 snpNumbers) (Gtc.many-items s first room v w) ∙ records-told 9 snpNumbers snpReading s (length v) first (told (bulkOf snps) s) (λ _. refl) (λ _ _. refl);
           };
       full = Gtc.many-full;

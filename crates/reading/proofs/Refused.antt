@@ -63,7 +63,3 @@ refuses-at {A} P Q e t s f p = record { told = λ n d h. go (answer t s) refl n 
     go : (r : Answer A) → answer t s ≡ r → (n d : ℕ) → answerAt e r ≡ refused n d → Q n d
     go (ok a) g n d h = absurd (not-ok (sym h))
     go (refused m c) g n d h = told-by Q _ m e n d refl h (f m c (p .told m c g))
-
--- what holds of more refusals
-pub refuses-so : {A : Type 0} (P Q : ℕ → ℕ → Type 0) (t : Check A) (s : List ℕ) → ((n e : ℕ) → P n e → Q n e) → Refuses P t s → Refuses Q t s
-refuses-so P Q t s f p = record { told = λ n e h. f n e (p .told n e h) }

@@ -5,7 +5,7 @@ use mathlib.Core.Path.{_≡_, refl, sym, _∙_, ap, subst}
 use mathlib.Core.Bool.{true, false}
 use mathlib.Core.List.{List, [], _∷_, _++_}
 use native.Mathlib.Omega.{arith}
-use lib.ListN.{length, drop, length-append}
+use lib.ListN.{length, drop}
 use lib.Seq.{sets}
 use borrow.Author.Tests.{le-leb, lt-leb}
 use Rattle.reading.specs.Choice.{isNumberOf}
@@ -13,6 +13,7 @@ use Rattle.reading.specs.Check.{Answer, ok, refused, answer, mapAnswer, holds}
 use Rattle.reading.specs.Lent.{filled}
 use Rattle.reading.specs.Bulk.{leftFrom, fitting, recordOf, records}
 use Rattle.reading.proofs.Steps.{answer-bind, answer-must, answer-done}
+use Rattle.reading.proofs.bulk.Laws as Bulk
 use Rattle.reading.proofs.Fill.{Filling, fill-start, fill-record}
 use Rattle.gtc.specs.declared.snp.SnpArrays.{SnpArrays}
 use Rattle.gtc.specs.declared.snp.Snp.{Snp}
@@ -25,16 +26,11 @@ abbrev pub bytes : List ℕ → List ℕ → List ℕ → List ℕ → List ℕ 
 bytes g b f x y = record { genotypes = g; baseCalls = b; scores = f; x = x; y = y }
 
 -- a record is nine numbers long
-length-record : (r : Answer Snp) → length (recordOf 9 snpNumbers r) ≡ 9
-length-record (ok r) = refl
-length-record (refused n e) = refl
+pub record-wide : (r : Answer Snp) → length (recordOf 9 snpNumbers r) ≡ 9
+record-wide = Bulk.record-wide 9 snpNumbers (omega arith) (λ _. refl)
 
-length-records : (rs : List (Answer Snp)) → length (records 9 snpNumbers rs) ≡ 9 * length rs
-length-records [] = refl
-length-records (r ∷ rs) =
-    let e = length-records rs in
-    let f = length-record r in
-    length-append (recordOf 9 snpNumbers r) (records 9 snpNumbers rs) ∙ omega arith
+records-length : (v : List (Answer Snp)) → length (records 9 snpNumbers v) ≡ 9 * length v
+records-length = Bulk.records-length 9 snpNumbers (omega arith) (λ _. refl)
 
 pub length-snps : (b : SnpBytes) (n j : ℕ) → length (snpsAt b n j) ≡ n
 unfolding snpsAt
@@ -55,7 +51,7 @@ module _ (b : SnpBytes) where
   unfolding snpsAt
   fill-snp k n i o out whole f h =
       let r = answer (snpAt b k) [] in
-      fill-record (ahead b k) n i o out whole f (recordOf 9 snpNumbers r) 9 (length-record r) h (ahead b (k + 1)) (λ m. let q : (9 + m) / 9 ≡ suc (m / 9) = omega arith in rw q)
+      fill-record (ahead b k) n i o out whole f (recordOf 9 snpNumbers r) 9 (record-wide r) h (ahead b (k + 1)) (λ m. let q : (9 + m) / 9 ≡ suc (m / 9) = omega arith in rw q)
 
 -- there is no such SNP
 pub of-none : (s : List ℕ) (a : SnpArrays) (first : ℕ) → isNumberOf first (a .genotypes .count) ≡ false → (room : ℕ) → answer (snpsOf a first room) s ≡ refused 12 0
@@ -80,4 +76,4 @@ module _ (s : List ℕ) (a : SnpArrays) (p : Present s a) (first : ℕ) (f : isN
   pub of-put : (out′ : List ℕ) → out′ ≡ records 9 snpNumbers (snpsAt (bytesIn s a) many (first - 1)) ++ drop (9 * many) out → (ok many ≡ mapAnswer length (answer (snpsOf a first (length out)) s)) × (out′ ≡ filled (mapAnswer (records 9 snpNumbers) (answer (snpsOf a first (length out)) s)) out)
   of-put out′ c =
       let n = length-snps (bytesIn s a) many (first - 1) in
-      (rw of-ok (ap ok (sym n)), c ∙ rw (of-ok, length-records (snpsAt (bytesIn s a) many (first - 1)), n))
+      (rw of-ok (ap ok (sym n)), c ∙ rw (of-ok, records-length (snpsAt (bytesIn s a) many (first - 1)), n))

@@ -1,15 +1,15 @@
 -- Numbers put side by side into a lent list, and the items of a bulk call.
 -- Assumes nothing.
-use Prim.Native.Nat.{ℕ, suc, _+_, _≤_}
-use mathlib.Core.Path.{_≡_, refl, _∙_, ap}
+use Prim.Native.Nat.{ℕ, suc, _+_, _-_, _*_, _≤_}
+use mathlib.Core.Path.{_≡_, refl, sym, _∙_, ap}
 use mathlib.Core.List.{List, [], _∷_, _++_}
-use native.Mathlib.Nat.{add-zero}
+use native.Mathlib.Nat.{add-zero, mul-zero, mul-suc, add-comm}
 use native.Mathlib.Omega.{arith}
-use lib.ListN.{length, set, drop}
+use lib.ListN.{length, set, drop, replicate, length-append, length-replicate}
 use lib.Seq.{sets, length-sets}
 use borrow.Author.Tests.{le-leb}
 use Rattle.reading.specs.Check.{Check, Answer, ok, refused, answer}
-use Rattle.reading.specs.Bulk.{answersFrom, OfItem, answered, forbidden, placed}
+use Rattle.reading.specs.Bulk.{recordOf, records, answersFrom, OfItem, answered, forbidden, placed}
 
 sets-append : (xs ys l : List ℕ) (i : ℕ) → sets (sets l i xs) (i + length xs) ys ≡ sets l i (xs ++ ys)
 sets-append [] ys l i = ap (λ (k : ℕ). sets l k ys) (add-zero i)
@@ -47,3 +47,15 @@ of-item (ok b) h = answered b
 of-item (refused n e) h =
     let q = h n e refl in
     rw (q .0, q .1) forbidden
+
+-- records of w numbers, where the numbers of an answer are one fewer
+module _ {A : Type 0} (w : ℕ) (numbers : A → List ℕ) (positive : 1 ≤ w) (fewer : (a : A) → suc (length (numbers a)) ≡ w) where
+  pub record-wide : (a : Answer A) → length (recordOf w numbers a) ≡ w
+  record-wide (ok a) = fewer a
+  record-wide (refused n e) =
+      let z : length {A = ℕ} (replicate (w - 1) 0) ≡ w - 1 = length-replicate (w - 1) 0 in
+      omega arith
+
+  pub records-length : (v : List (Answer A)) → length (records w numbers v) ≡ w * length v
+  records-length [] = sym (mul-zero w)
+  records-length (a ∷ v) = length-append (recordOf w numbers a) (records w numbers v) ∙ ap (λ (k : ℕ). k + length (records w numbers v)) (record-wide a) ∙ ap (λ (k : ℕ). w + k) (records-length v) ∙ sym (mul-suc w (length v) ∙ add-comm (w * length v) w)

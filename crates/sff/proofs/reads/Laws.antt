@@ -13,6 +13,7 @@ use Rattle.reading.specs.Check.{Need, Outcome, passed, failed, short, Answer, o
 use Rattle.reading.specs.Bulk.{leftFrom, fitting, recordOf, records}
 use Rattle.reading.proofs.Cut.{run-ok, answer-ok, answer-plain, answer-same}
 use Rattle.reading.proofs.Steps.{then, answer-bind, answer-must, answer-done, answer-at, answer-need-present}
+use Rattle.reading.proofs.bulk.Laws as Bulk
 use Rattle.reading.proofs.Passed.{bind-ok, done-ok, map-refused}
 use Rattle.sff.specs.declared.header.Header.{Header}
 use Rattle.sff.specs.declared.walk.Boundary.{Boundary}
@@ -145,17 +146,12 @@ module _ (f : ℕ) (l : List ℕ) where
   reads-length [] = refl
   reads-length (p ∷ ps) = ap suc (reads-length ps)
 
+-- a record is 17 numbers long
 pub record-wide : (a : Answer Read) → length (recordOf 17 readNumbers a) ≡ 17
-record-wide (ok r) = refl
-record-wide (refused n e) = refl
+record-wide = Bulk.record-wide 17 readNumbers (omega arith) (λ _. refl)
 
 pub records-length : (v : List (Answer Read)) → length (records 17 readNumbers v) ≡ 17 * length v
-records-length [] = refl
-records-length (a ∷ v) =
-    let e = length-append (recordOf 17 readNumbers a) (records 17 readNumbers v) in
-    let f = record-wide a in
-    let g = records-length v in
-    omega arith
+records-length = Bulk.records-length 17 readNumbers (omega arith) (λ _. refl)
 
 -- the records of reads that a walk passes, of which m numbers are left
 module _ (d : Header) (s : List ℕ) where
