@@ -6,7 +6,6 @@ use mathlib.Core.List.{List}
 use native.Mathlib.Omega.{arith}
 use lib.IntN.{ℤ}
 use lib.ListN.{length}
-use Rattle.reading.specs.Number.{bits}
 use Rattle.abif_write.specs.Item.{given}
 use Rattle.abif_write.proofs.write.Laws.{made}
 use Rattle.abif_write.proofs.Trip.{Lent, bits-fit, trip-whole, trip-opens, trip-kept, trip-only}

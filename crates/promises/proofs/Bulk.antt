@@ -1,6 +1,6 @@
 -- The bulk calls go by the rule.
 -- Assumes nothing.
-use Prim.Native.Nat.{ℕ, zero, suc, _+_, _*_, _≤_, _<_}
+use Prim.Native.Nat.{ℕ, zero, suc, _+_, _*_, _<_}
 use mathlib.Core.Path.{_≡_, refl, sym, _∙_, ap}
 use mathlib.Core.Logic.{_⊎_, inl, inr}
 use mathlib.Core.List.{List, [], _∷_, _++_}
@@ -9,9 +9,9 @@ use native.Mathlib.Omega.{arith}
 use lib.IntN.{ℤ, pos}
 use lib.ListN.{length, drop, getD}
 use lib.Seq.{drop-cons}
-use Rattle.reading.specs.Check.{Check, Answer, ok, refused, answer}
+use Rattle.reading.specs.Check.{Check, ok, answer}
 use Rattle.reading.specs.Bulk.{recordOf, records, answersFrom, OfItem, answered}
-use Rattle.abif.specs.Element.{Value, whole, elementReading}
+use Rattle.abif.specs.Element.{whole, elementReading}
 use Rattle.abif.proofs.numbers.Numbered.{numbers-of, no-room}
 use Rattle.sff.specs.Lookup.{readReading}
 use Rattle.sff.specs.Reads.{readNumbers}
@@ -21,7 +21,7 @@ use Rattle.gtc.specs.Snp.{snpReading}
 use Rattle.gtc.specs.Snps.{snpNumbers}
 use Rattle.gtc.proofs.snps.Laws as Snps
 use Rattle.gtc.proofs.snps.Numbered as Gtc
-use Rattle.promises.specs.Bulk.{Bulk, told, Told, ByTheRule, wholeNumber, Name, wholeNumbers, reads, snps, bulkOf, BulkRule}
+use Rattle.promises.specs.Bulk.{told, ByTheRule, wholeNumber, wholeNumbers, reads, snps, bulkOf, BulkRule}
 
 -- records of what is answered one by one
 records-told : {A : Type 0} (w : ℕ) (numbers : A → List ℕ) (t : ℕ → Check A) (s : List ℕ) (n first : ℕ) (f : ℕ → ℕ → List ℕ) → ((first : ℕ) → f first 0 ≡ []) → ((first n : ℕ) → f first (suc n) ≡ recordOf w numbers (answer (t first) s) ++ f (first + 1) n) → records w numbers (answersFrom t s first n) ≡ f first n

@@ -4,7 +4,7 @@
 use Prim.Native.Nat.{ℕ}
 use mathlib.Core.Path.{_≡_}
 use mathlib.Core.Bool.{true}
-use mathlib.Core.List.{List, []}
+use mathlib.Core.List.{[]}
 use Rattle.reading.specs.Choice.{among}
 use Rattle.reading.specs.Check.{ok, refused, answer}
 use Rattle.reading.specs.Part.{Part}

@@ -1,14 +1,12 @@
+use mathlib.Core.Path.{_∙_, sym, ap}
+use lib.Seq.{sets}
+use borrow.Author.Needs.{needs}
 use Rattle.reading.specs.Bulk.{recordOf}
-use Rattle.sff.proofs.reads.put_found.Statement.{statement}
-use Rattle.sff.proofs.reads.put_found.Tie as tie
-use Rattle.sff.proofs.reads.put_read.Reads as put-read-reads
-use Rattle.sff.proofs.reads.put_refused.Reads as put-refused-reads
 use Rattle.sff.specs.Lookup.{found}
 use Rattle.sff.specs.Reads.{readNumbers}
 use Rattle.sff.specs.declared.lookup.Found.{Found}
-use borrow.Author.Needs.{needs}
-use lib.Seq.{sets}
-use mathlib.Core.Path.{_∙_, sym, ap}
+use Rattle.sff.proofs.reads.put_found.Statement.{statement}
+use Rattle.sff.proofs.reads.put_found.Tie as tie
 
 enum-known-f : tie.Need-enum-known-f
 enum-known-f c = search needs

@@ -1,16 +1,14 @@
 use Prim.Native.Nat.{_-_, _≤_}
+use mathlib.Core.Path.{_≡_, sym, subst}
+use native.Mathlib.Omega.{arith}
+use lib.ListN.{length, length-take, length-drop}
+use borrow.Author.Needs.{needs}
 use Rattle.reading.specs.Check.{ok, answer}
+use Rattle.sff.specs.Walk.{walk}
+use Rattle.sff.specs.declared.walk.Boundary.{Boundary}
 use Rattle.sff.proofs.reads.Laws.{halves, halves-written}
 use Rattle.sff.proofs.reads.put_halves.Statement.{statement}
 use Rattle.sff.proofs.reads.put_halves.Tie as tie
-use Rattle.sff.proofs.reads.put_pairs.Reads as put-pairs-reads
-use Rattle.sff.proofs.reads.put_reads.Reads as put-reads-reads
-use Rattle.sff.specs.Walk.{walk}
-use Rattle.sff.specs.declared.walk.Boundary.{Boundary}
-use borrow.Author.Needs.{needs}
-use lib.ListN.{length, length-take, length-drop}
-use mathlib.Core.Path.{_≡_, sym, subst}
-use native.Mathlib.Omega.{arith}
 
 put-pairs-requires : tie.Need-put-pairs-requires
 put-pairs-requires c κs = let z = c .before .before .before in

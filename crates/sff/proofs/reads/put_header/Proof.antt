@@ -1,12 +1,11 @@
-use Rattle.reading.proofs.bulk.Laws.{put-behind}
-use Rattle.reading.proofs.bulk.put_four.Reads as put-four-reads
-use Rattle.sff.proofs.reads.put_header.Statement.{statement}
-use Rattle.sff.proofs.reads.put_header.Tie as tie
-use borrow.Author.Needs.{needs}
-use lib.ListN.{length-set}
 use mathlib.Core.List.{[], _∷_, _++_}
 use mathlib.Core.Path.{refl, _∙_}
 use native.Mathlib.Omega.{arith}
+use lib.ListN.{length-set}
+use borrow.Author.Needs.{needs}
+use Rattle.reading.proofs.bulk.Laws.{put-behind}
+use Rattle.sff.proofs.reads.put_header.Statement.{statement}
+use Rattle.sff.proofs.reads.put_header.Tie as tie
 
 mul-out : tie.Need-mul-out
 mul-out c = search needs

@@ -1,22 +1,17 @@
 use Prim.Native.Nat.{ℕ, _+_, _-_, _*_, _/_, _≤_}
-use Rattle.reading.proofs.Fill.{Lanes, lanes-start, lanes-next, lanes-end}
-use Rattle.reading.proofs.Loop.{Left, left-start, left-next, left-end}
-use Rattle.reading.specs.Bulk.{recordOf, records}
-use Rattle.sff.proofs.lookup.read_from.Reads as read-from-reads
-use Rattle.sff.proofs.reads.Laws.{along, along-is, farther, farther-next, farther-end, farther-is, Passes, passes-first, passes-next, numbersLeft, numbers-next, numbers-none, record-wide}
-use Rattle.sff.proofs.reads.put_found.Reads as put-found-reads
-use Rattle.sff.proofs.reads.put_pairs.Statement.{statement}
-use Rattle.sff.proofs.reads.put_pairs.Tie as tie
-use Rattle.sff.proofs.reads.sound_read.Reads as sound-read-reads
-use Rattle.sff.proofs.walk.Laws.{next-passed-within, next-passed-start}
-use Rattle.sff.specs.Lookup.{found}
-use Rattle.sff.specs.Reads.{readsAt, readNumbers}
-use borrow.Author.Needs.{needs}
-use lib.ListN.{length, drop}
-use lib.Seq.{length-sets}
 use mathlib.Core.List.{List, _++_}
 use mathlib.Core.Path.{_≡_, sym, _∙_, ap, subst}
 use native.Mathlib.Omega.{arith}
+use lib.ListN.{length, drop}
+use Rattle.reading.proofs.Fill.{Lanes, lanes-start, lanes-next, lanes-end}
+use Rattle.reading.proofs.Loop.{Left, left-start, left-next, left-end}
+use Rattle.reading.specs.Bulk.{recordOf, records}
+use Rattle.sff.specs.Lookup.{found}
+use Rattle.sff.specs.Reads.{readsAt, readNumbers}
+use Rattle.sff.proofs.reads.Laws.{along, along-is, farther, farther-next, farther-end, farther-is, Passes, passes-first, passes-next, numbersLeft, numbers-next, numbers-none, record-wide}
+use Rattle.sff.proofs.reads.put_pairs.Statement.{statement}
+use Rattle.sff.proofs.reads.put_pairs.Tie as tie
+use Rattle.sff.proofs.walk.Laws.{next-passed-within, next-passed-start}
 
 abbrev Inv-loop : tie.InvT-loop
 Inv-loop s d n out₀ here₀ there₀ i₀ out here there i =

@@ -1,16 +1,9 @@
-use Prim.Native.Nat.{ℕ, _+_, _≤_}
+use mathlib.Core.List.{[], _∷_}
+use native.Mathlib.Omega.{arith}
+use borrow.Author.Needs.{needs}
 use Rattle.reading.proofs.bulk.Laws.{put-behind, put-front}
-use Rattle.reading.proofs.bulk.put_four.Reads as put-four-reads
-use Rattle.reading.specs.Bulk.{placed}
 use Rattle.sff.proofs.reads.put_parts.Statement.{statement}
 use Rattle.sff.proofs.reads.put_parts.Tie as tie
-use borrow.Author.Needs.{needs}
-use lib.ListN.{length}
-use mathlib.Core.List.{[], _∷_, _++_}
-use mathlib.Core.Path.{_≡_, subst}
-use mathlib.Core.Path.{refl, _∙_}
-use native.Mathlib.Nat.{add-zero}
-use native.Mathlib.Omega.{arith}
 
 put-four-requires : tie.Need-put-four-requires
 put-four-requires c κs = search needs

@@ -1,16 +1,11 @@
+use lib.ListN.{take, drop}
+use borrow.Author.Needs.{needs}
 use Rattle.reading.proofs.bulk.Laws.{set-behind}
 use Rattle.reading.specs.Bulk.{recordOf}
 use Rattle.reading.specs.Check.{ok}
-use Rattle.sff.proofs.reads.put_header.Reads as put-header-reads
-use Rattle.sff.proofs.reads.put_parts.Reads as put-parts-reads
+use Rattle.sff.specs.Reads.{readNumbers}
 use Rattle.sff.proofs.reads.put_read.Statement.{statement}
 use Rattle.sff.proofs.reads.put_read.Tie as tie
-use Rattle.sff.specs.Reads.{readNumbers}
-use borrow.Author.Needs.{needs}
-use lib.ListN.{take, drop}
-use mathlib.Core.List.{[], _∷_, _++_}
-use mathlib.Core.Path.{refl, _∙_}
-use native.Mathlib.Omega.{arith}
 
 put-header-requires : tie.Need-put-header-requires
 put-header-requires c κs = search needs

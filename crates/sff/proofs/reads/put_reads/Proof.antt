@@ -1,22 +1,17 @@
+use Prim.Native.Nat.{ℕ, _-_, _*_, _/_, _≤_}
+use mathlib.Core.List.{List, _++_}
+use mathlib.Core.Path.{_≡_, _∙_, ap, subst}
+use native.Mathlib.Omega.{arith}
+use lib.ListN.{length, drop}
 use borrow.Author.Needs.{needs}
-use Prim.Native.Nat.{ℕ, _+_, _-_, _*_, _/_, _≤_}
 use Rattle.reading.proofs.Fill.{Filling, fill-start, fill-record, fill-end}
 use Rattle.reading.specs.Bulk.{recordOf, records}
-use Rattle.reading.specs.Check.{answer}
-use Rattle.sff.proofs.lookup.read_from.Reads as read-from-reads
-use Rattle.sff.proofs.reads.Laws.{along, along-is, Passes, passes-first, passes-next, numbersLeft, numbers-next, numbers-none, record-wide}
-use Rattle.sff.proofs.reads.put_found.Reads as put-found-reads
-use Rattle.sff.proofs.reads.put_reads.Statement.{statement}
-use Rattle.sff.proofs.reads.put_reads.Tie as tie
-use Rattle.sff.proofs.reads.sound_read.Reads as sound-read-reads
-use Rattle.sff.proofs.walk.Laws.{next-passed-within, next-passed-start}
 use Rattle.sff.specs.Lookup.{found}
 use Rattle.sff.specs.Reads.{readsAt, readNumbers}
-use Rattle.sff.specs.Walk.{Passage}
-use lib.ListN.{length, drop}
-use mathlib.Core.List.{List, _++_}
-use mathlib.Core.Path.{_≡_, refl, sym, _∙_, ap, subst}
-use native.Mathlib.Omega.{arith}
+use Rattle.sff.proofs.reads.Laws.{along, along-is, Passes, passes-first, passes-next, numbersLeft, numbers-next, numbers-none, record-wide}
+use Rattle.sff.proofs.reads.put_reads.Statement.{statement}
+use Rattle.sff.proofs.reads.put_reads.Tie as tie
+use Rattle.sff.proofs.walk.Laws.{next-passed-within, next-passed-start}
 
 abbrev Inv-loop : tie.InvT-loop
 Inv-loop s d n out₀ here₀ p₀ i₀ out here p i =

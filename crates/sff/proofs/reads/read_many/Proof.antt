@@ -1,14 +1,12 @@
+use mathlib.Core.Path.{sym, _∙_, ap}
+use lib.ListN.{length}
+use borrow.Author.Needs.{needs}
 use Rattle.reading.proofs.Passed.{bind-refused, bind-answered}
-use Rattle.sff.proofs.header.Laws.{header-there}
-use Rattle.sff.proofs.header.read_fields.Reads as read-fields-reads
-use Rattle.sff.proofs.reads.read_many.Statement.{statement}
-use Rattle.sff.proofs.reads.read_many.Tie as tie
-use Rattle.sff.proofs.reads.reads_in.Reads as reads-in-reads
 use Rattle.sff.specs.Header.{header, opened}
 use Rattle.sff.specs.Reads.{readsIn, readsReading}
-use borrow.Author.Needs.{needs}
-use lib.ListN.{length}
-use mathlib.Core.Path.{sym, _∙_, ap}
+use Rattle.sff.proofs.header.Laws.{header-there}
+use Rattle.sff.proofs.reads.read_many.Statement.{statement}
+use Rattle.sff.proofs.reads.read_many.Tie as tie
 
 read-fields-requires : tie.Need-read-fields-requires
 read-fields-requires c κs = search needs

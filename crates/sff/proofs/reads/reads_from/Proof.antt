@@ -1,19 +1,17 @@
 use Prim.Native.Nat.{ℕ, _+_, _-_, _*_, _/_}
+use mathlib.Core.List.{_++_}
+use mathlib.Core.Path.{_≡_, sym, _∙_, ap}
+use native.Mathlib.Omega.{arith}
+use lib.ListN.{length, drop}
+use borrow.Author.Needs.{needs}
 use Rattle.reading.specs.Bulk.{records}
+use Rattle.sff.specs.Reads.{readsAt, readNumbers}
+use Rattle.sff.specs.Walk.{past}
 use Rattle.sff.proofs.reads.Laws.{passage, first-failed, first-short, then-failed, then-short, over, reads-answered, reads-counted, records-length}
-use Rattle.sff.proofs.reads.put_halves.Reads as put-halves-reads
 use Rattle.sff.proofs.reads.reads_from.Statement.{statement}
 use Rattle.sff.proofs.reads.reads_from.Tie as tie
 use Rattle.sff.proofs.walk.Laws.{past-within, walk-any}
 use Rattle.sff.proofs.walk.Split.{past-parts}
-use Rattle.sff.proofs.walk.walk.Reads as walk-reads
-use Rattle.sff.specs.Reads.{readsAt, readNumbers}
-use Rattle.sff.specs.Walk.{past}
-use borrow.Author.Needs.{needs}
-use lib.ListN.{length, drop}
-use mathlib.Core.List.{List, _++_}
-use mathlib.Core.Path.{_≡_, sym, _∙_, ap}
-use native.Mathlib.Omega.{arith}
 
 cast-t13 : tie.Need-cast-t13
 cast-t13 c = search needs

@@ -1,13 +1,10 @@
-use Prim.Native.Nat.{_-_}
-use Rattle.reading.proofs.bulk.smaller.Reads as smaller-reads
-use Rattle.sff.proofs.reads.Laws.{in-none, in-past, in-full, in-read}
-use Rattle.sff.proofs.reads.reads_from.Reads as reads-from-reads
-use Rattle.sff.proofs.reads.reads_in.Statement.{statement}
-use Rattle.sff.proofs.reads.reads_in.Tie as tie
-use borrow.Author.Needs.{needs}
-use lib.ListN.{length}
 use mathlib.Core.Path.{_∙_}
 use native.Mathlib.Omega.{arith}
+use lib.ListN.{length}
+use borrow.Author.Needs.{needs}
+use Rattle.sff.proofs.reads.Laws.{in-none, in-past, in-full, in-read}
+use Rattle.sff.proofs.reads.reads_in.Statement.{statement}
+use Rattle.sff.proofs.reads.reads_in.Tie as tie
 
 returns : tie.Need-returns
 returns c = let g = c .before .before .before .args in
