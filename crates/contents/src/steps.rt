@@ -59,7 +59,7 @@ fn sum_up_to(most: u64, steps: &[u8]) -> u64
     sum
 }
 
-// The sum of steps, of which there are not so many that it would pass 2^48.
+// The sum of the steps where it is not past 2^48, else a number past it.
 pub fn sum_of(steps: &[u8]) -> u64
     ensures { λ r. ⌜ SumUpTo 0x1000000000000 (now (steps .entry)) r ⌝ }
 {

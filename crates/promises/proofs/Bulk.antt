@@ -10,7 +10,8 @@ use lib.IntN.{ℤ, pos}
 use lib.ListN.{length, drop, getD}
 use lib.Seq.{drop-cons}
 use Rattle.reading.specs.Check.{Check, ok, answer}
-use Rattle.reading.specs.Bulk.{recordOf, records, answersFrom, OfItem, answered}
+use Rattle.reading.specs.Bulk.{recordOf, records, OfItem, answered}
+use Rattle.reading.proofs.bulk.Laws.{answersFrom}
 use Rattle.abif.specs.Element.{whole, elementReading}
 use Rattle.abif.proofs.numbers.Numbered.{numbers-of, no-room}
 use Rattle.sff.specs.Lookup.{readReading}

@@ -1,6 +1,6 @@
 -- Bulk calls, which write many items into a lent list of numbers: as many as are left and as fit.
 -- Assumes nothing.
-use Prim.Native.Nat.{ℕ, zero, suc, _+_, _-_, _/_, min}
+use Prim.Native.Nat.{ℕ, _+_, _-_, _/_, min}
 use mathlib.Core.List.{List, [], _∷_, _++_}
 use lib.ListN.{length, replicate}
 use lib.Seq.{sets}
@@ -8,7 +8,7 @@ use lib.Dec.{leb}
 use Rattle.reading.specs.declared.bulk.Listed.{Listed}
 use Rattle.reading.specs.declared.bulk.Listed.the-variants.{Count, Refused}
 use Rattle.reading.specs.Choice.{pick}
-use Rattle.reading.specs.Check.{Check, Answer, ok, refused, answer, provided}
+use Rattle.reading.specs.Check.{Check, Answer, ok, refused, provided}
 
 -- how many of n items are left from number `first` on
 abbrev pub leftFrom : ℕ → ℕ → ℕ
@@ -32,11 +32,6 @@ module _ {A : Type 0} (w : ℕ) (numbers : A → List ℕ) where
   abbrev pub records : List (Answer A) → List ℕ
   records [] = []
   records (a ∷ l) = recordOf a ++ records l
-
--- what the call t for one item answers for n items from number `first` on
-abbrev pub answersFrom : {A : Type 0} → (ℕ → Check A) → List ℕ → ℕ → ℕ → List (Answer A)
-answersFrom t s first zero = []
-answersFrom t s first (suc n) = answer (t first) s ∷ answersFrom t s (first + 1) n
 
 -- an answer, or the refusal of an item's own contents
 pub data OfItem {A : Type 0} : Answer A → Type 0 where

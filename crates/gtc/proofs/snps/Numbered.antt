@@ -11,10 +11,10 @@ use lib.Dec.{leb}
 use borrow.Author.Tests.{le-leb, lt-leb, leb-true, leb-false}
 use Rattle.reading.specs.Choice.{isNumberOf}
 use Rattle.reading.specs.Check.{Answer, ok, refused, answer, holds}
-use Rattle.reading.specs.Bulk.{leftFrom, fitting, answersFrom, OfItem}
+use Rattle.reading.specs.Bulk.{leftFrom, fitting, OfItem}
 use Rattle.reading.proofs.Steps.{answer-bind, answer-must}
 use Rattle.reading.proofs.Passed.{bind-ok, done-ok, must-ok}
-use Rattle.reading.proofs.bulk.Laws.{answers-are, of-item}
+use Rattle.reading.proofs.bulk.Laws.{answersFrom, answers-are, of-item}
 use Rattle.reading.proofs.Tests.{number-within}
 use Rattle.gtc.specs.declared.snp.SnpArrays.{SnpArrays}
 use Rattle.gtc.specs.declared.snp.Snp.{Snp}

@@ -1,6 +1,6 @@
 -- Numbers put side by side into a lent list, and the items of a bulk call.
 -- Assumes nothing.
-use Prim.Native.Nat.{ℕ, suc, _+_, _-_, _*_, _≤_}
+use Prim.Native.Nat.{ℕ, zero, suc, _+_, _-_, _*_, _≤_}
 use mathlib.Core.Path.{_≡_, refl, sym, _∙_, ap}
 use mathlib.Core.List.{List, [], _∷_, _++_}
 use native.Mathlib.Nat.{add-zero, mul-zero, mul-suc, add-comm}
@@ -9,7 +9,7 @@ use lib.ListN.{length, set, drop, replicate, length-append, length-replicate}
 use lib.Seq.{sets, length-sets}
 use borrow.Author.Tests.{le-leb}
 use Rattle.reading.specs.Check.{Check, Answer, ok, refused, answer}
-use Rattle.reading.specs.Bulk.{recordOf, records, answersFrom, OfItem, answered, forbidden, placed}
+use Rattle.reading.specs.Bulk.{recordOf, records, OfItem, answered, forbidden, placed}
 
 sets-append : (xs ys l : List ℕ) (i : ℕ) → sets (sets l i xs) (i + length xs) ys ≡ sets l i (xs ++ ys)
 sets-append [] ys l i = ap (λ (k : ℕ). sets l k ys) (add-zero i)
@@ -29,6 +29,11 @@ put-behind o u v p xs ys e f h =
 -- numbers that stand alone
 pub put-front : (o u : List ℕ) (p : ℕ) (xs : List ℕ) → u ≡ placed o p xs → p + length xs ≤ length o → u ≡ sets o p xs
 put-front o u p xs e h = e ∙ rw (le-leb (p + length xs) (length o) h)
+
+-- what the call t for one item answers for n items from number `first` on
+abbrev pub answersFrom : {A : Type 0} → (ℕ → Check A) → List ℕ → ℕ → ℕ → List (Answer A)
+answersFrom t s first zero = []
+answersFrom t s first (suc n) = answer (t first) s ∷ answersFrom t s (first + 1) n
 
 -- the items that are answered one by one
 pub answers-are : {A : Type 0} (t : ℕ → Check A) (s : List ℕ) (v : List (Answer A)) (first : ℕ) → ((j : ℕ) (r : Answer A) (l : List (Answer A)) → drop j v ≡ r ∷ l → r ≡ answer (t (first + j)) s) → v ≡ answersFrom t s first (length v)

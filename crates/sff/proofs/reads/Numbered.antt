@@ -11,11 +11,11 @@ use lib.ListN.{length, take, drop, getD, length-drop}
 use lib.Seq.{drop-drop}
 use borrow.Author.Tests.{leb-true, leb-false}
 use Rattle.reading.specs.Check.{Answer, passed, ok, refused, run, answer, holds}
-use Rattle.reading.specs.Bulk.{leftFrom, fitting, answersFrom, OfItem}
+use Rattle.reading.specs.Bulk.{leftFrom, fitting, OfItem}
 use Rattle.reading.proofs.Cut.{answer-ok}
 use Rattle.reading.proofs.Steps.{answer-bind}
 use Rattle.reading.proofs.Passed.{bind-ok, done-ok, must-ok, need-ok, at-ok, bind-answered}
-use Rattle.reading.proofs.bulk.Laws.{answers-are, of-item}
+use Rattle.reading.proofs.bulk.Laws.{answersFrom, answers-are, of-item}
 use Rattle.reading.proofs.Tests.{number-within}
 use Rattle.sff.specs.declared.header.Header.{Header}
 use Rattle.sff.specs.declared.lookup.Read.{Read}
