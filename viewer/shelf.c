@@ -164,7 +164,7 @@ static void print_summary(const struct shelf *shelf) {
     for (uint64_t refusal = 1; refusal < REFUSALS; refusal++) {
         if (shelf->by_number[refusal] > 0) {
             printf("  refused %" PRIu64 ": %" PRIu64 " (%s)\n", refusal, shelf->by_number[refusal],
-                   refusal_meaning(refusal));
+                   refusal_words(refusal));
         }
     }
 }

@@ -3,27 +3,27 @@
 #include <inttypes.h>
 #include <string.h>
 
-const char *refusal_meaning(uint64_t refusal) {
-    static const char *const meanings[] = {
-        [1] = "cut short: a byte that the rule needs lies at or past the end",
-        [2] = "opening mark of another kind",
-        [3] = "version not handled",
-        [4] = "header fields contradict the format",
+const char *refusal_words(uint64_t refusal) {
+    static const char *const words[] = {
+        [1] = "missing: the file ends too soon",
+        [2] = "of another kind",
+        [3] = "of another version",
+        [4] = "the header contradicts itself",
         [5] = "more than 999 entries",
-        [6] = "negative offset, or offset below the lowest allowed",
-        [7] = "no such tag, id or read",
-        [8] = "tag or id stands twice",
-        [9] = "sizes or counts contradict each other",
-        [10] = "type or id not handled by this call",
-        [11] = "a value that the format forbids",
-        [12] = "no such element",
-        [13] = "lent output too small",
-        [14] = "items not strictly ascending",
+        [6] = "cannot stand where the table of contents says",
+        [7] = "not in this file",
+        [8] = "stands in the file twice",
+        [9] = "its sizes do not fit each other",
+        [10] = "of a type that is not shown this way",
+        [11] = "holds a value that the format forbids",
+        [12] = "has no values",
+        [13] = "the room lent is too small",
+        [14] = "not in ascending order",
     };
-    if (refusal < 1 || refusal >= sizeof meanings / sizeof meanings[0]) {
-        return "no refusal";
+    if (refusal < 1 || refusal >= sizeof words / sizeof words[0]) {
+        return "not refused";
     }
-    return meanings[refusal];
+    return words[refusal];
 }
 
 const char *abif_type_name(int64_t code) {
@@ -98,11 +98,11 @@ void genotype_name(int code, int ploidy, int b_alleles, char name[GENOTYPE_LENGT
 }
 
 void print_refusal(uint64_t refusal) {
-    printf("refused %" PRIu64 ": %s", refusal, refusal_meaning(refusal));
+    printf("%s (refused %" PRIu64 ")", refusal_words(refusal), refusal);
 }
 
 void print_refused(const char *what, uint64_t refusal) {
-    printf("%s ", what);
+    printf("%s: ", what);
     print_refusal(refusal);
     putchar('\n');
 }

@@ -9,10 +9,10 @@
 /* The refusals that the viewer tells apart. */
 enum { NOT_THERE = 7, TWICE = 8, TYPE_NOT_HANDLED = 10, FORBIDDEN_VALUE = 11, NO_SUCH_ELEMENT = 12 };
 
-/* What a refusal's number means. */
-const char *refusal_meaning(uint64_t refusal);
+/* What a refusal's number says of a part of a file, in plain words. */
+const char *refusal_words(uint64_t refusal);
 
-/* Prints a refusal with its meaning, and as a line of its own with what is refused. */
+/* Prints a refusal in words and its number, and as a line of its own with what is refused. */
 void print_refusal(uint64_t refusal);
 void print_refused(const char *what, uint64_t refusal);
 
