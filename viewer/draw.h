@@ -6,8 +6,11 @@
 
 struct draw_options {
     const char *output;
-    bool raw;      /* ABIF: the raw channels */
-    uint64_t read; /* SFF: which read, from one */
+    bool raw;          /* ABIF: the raw channels */
+    uint64_t read;     /* SFF: which read, from one */
+    uint64_t points;   /* ABIF: how many points a row has */
+    bool letter_paper; /* pages for Letter instead of A4 */
+    bool landscape;
 };
 
 /* Each draws the whole picture and tells whether all that it is made of was answered. */

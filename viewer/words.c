@@ -1,5 +1,7 @@
 #include "words.h"
 
+#include "text.h"
+
 #include <inttypes.h>
 #include <string.h>
 
@@ -107,10 +109,18 @@ void print_refused(const char *what, uint64_t refusal) {
     putchar('\n');
 }
 
-void print_bytes(const uint8_t *bytes, size_t length) {
-    for (size_t i = 0; i < length; i++) {
-        putchar(bytes[i] >= 32 && bytes[i] <= 126 ? bytes[i] : '.');
+struct grouped with_commas(uint64_t number) {
+    struct grouped grouped = {.text = ""};
+    char digits[GROUPED_LENGTH];
+    int length = snprintf(digits, sizeof digits, "%" PRIu64, number);
+    char *end = grouped.text;
+    for (int i = 0; i < length; i++) {
+        if (i > 0 && (length - i) % 3 == 0) {
+            *end++ = ',';
+        }
+        *end++ = digits[i];
     }
+    return grouped;
 }
 
 uint32_t tag_name(const char *letters) {
@@ -122,20 +132,24 @@ struct tag_letters tag_letters(uint32_t name) {
     return (struct tag_letters){{(uint8_t)(name >> 24), (uint8_t)(name >> 16), (uint8_t)(name >> 8), (uint8_t)name}};
 }
 
-void print_tag_name(uint32_t name) {
+struct tag_text tag_text(uint32_t name) {
     struct tag_letters letters = tag_letters(name);
-    print_bytes(letters.bytes, sizeof letters.bytes);
+    struct tag_text tag = {.text = ""};
+    for (size_t i = 0; i < sizeof letters.bytes; i++) {
+        uint8_t byte = letters.bytes[i];
+        tag.text[i] = byte >= ' ' && byte <= '~' ? (char)byte : '.';
+    }
+    return tag;
 }
 
-void print_path(FILE *out, const char *path) {
-    for (; *path != '\0'; path++) {
-        unsigned char byte = (unsigned char)*path;
-        fputc(byte < 32 || byte == 127 ? '?' : byte, out);
+void print_letters(const uint8_t *letters, size_t length) {
+    for (size_t i = 0; i < length; i++) {
+        putchar(letters[i] > ' ' && letters[i] <= '~' ? letters[i] : '.');
     }
 }
 
 void tell_failure(const char *path, const char *reason) {
     fputs("jtview: ", stderr);
-    print_path(stderr, path);
+    print_string(stderr, path);
     fprintf(stderr, ": %s\n", reason);
 }
