@@ -29,9 +29,7 @@ static const char *take_file(struct file *file, int descriptor) {
 
 static const char *volatile at_hand = "";
 
-const char *file_at_hand(void) {
-    return at_hand;
-}
+const char *file_at_hand(void) { return at_hand; }
 
 const char *file_open(struct file *file, const char *path) {
     *file = (struct file){.path = path};
