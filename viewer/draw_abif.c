@@ -128,7 +128,7 @@ static void draw_front(void *subject, uint64_t index, int64_t y) {
     svg_format(svg,
                "data-highest=\"%" PRId64 "\" x=\"%d\" y=\"%" PRId64 "\">Points 0 to %s: no peak yet, the signal stays "
                "between ",
-               chart->front.highest, PLOT_LEFT + 12, y + 20, grouped(last).text);
+               chart->front.highest, PLOT_LEFT + 12, y + 20, with_commas(last).text);
     svg_grouped(svg, chart->front.lowest);
     svg_markup(svg, " and ");
     svg_grouped(svg, chart->front.highest);
@@ -146,8 +146,8 @@ static void draw_left_out(void *subject, uint64_t index, int64_t y) {
     svg_format(svg,
                "<text class=\"left-out\" data-from=\"%" PRIu64 "\" data-to=\"%" PRIu64 "\" x=\"%d\" y=\"%" PRId64 "\">",
                from, chart->length - 1, PLOT_LEFT + 12, y + 20);
-    svg_format(svg, "Left out: rows %d to %s, points %s to %s.</text>", MOST_ROWS + 1, grouped(chart->total_rows).text,
-               grouped(from).text, grouped(chart->length - 1).text);
+    svg_format(svg, "Left out: rows %d to %s, points %s to %s.</text>", MOST_ROWS + 1, with_commas(chart->total_rows).text,
+               with_commas(from).text, with_commas(chart->length - 1).text);
     svg_format(svg,
                "<text x=\"%d\" y=\"%" PRId64
                "\">A picture has at most %d rows. With --points N a row has N points.</text>\n",
@@ -192,7 +192,7 @@ static void note_channels(struct abif_picture *abif) {
     const struct run *run = abif->chart->run;
     if (run->stated_dyes > MOST_CHANNELS) {
         snprintf(next_note(abif), NOTE_LENGTH, "Dye# 1 says that there are %s dyes. The first %d are shown.",
-                 grouped((uint64_t)run->stated_dyes).text, MOST_CHANNELS);
+                 with_commas((uint64_t)run->stated_dyes).text, MOST_CHANNELS);
     }
     if (run->fragment) {
         note(abif, "The file has no base order and no called letters: its channels are told apart by their dyes.");
@@ -229,7 +229,7 @@ static void note_letters(struct abif_picture *abif) {
     if (chart->hidden > 0) {
         snprintf(next_note(abif), NOTE_LENGTH,
                  "Letters not shown, because their trace cannot be read at their place: %s.",
-                 grouped(chart->hidden).text);
+                 with_commas(chart->hidden).text);
     }
 }
 

@@ -201,7 +201,7 @@ static void draw_more(struct flowgram *flowgram, uint64_t flow, uint64_t letters
                    "\" transform=\"translate(%" PRIu64 ",%d) rotate(90)\">+%s</text>\n",
                    flow, letters - MOST_LETTERS, FLOW_WIDTH * ((flow - 1) % FLOWS) + 1,
                    PLOT_HEIGHT + FLOW_LETTER_HEIGHT + LETTER_HEIGHT * MOST_LETTERS + 3,
-                   grouped(letters - MOST_LETTERS).text);
+                   with_commas(letters - MOST_LETTERS).text);
     }
 }
 
@@ -246,8 +246,8 @@ static void draw_left_out(void *subject, uint64_t index, int64_t y) {
     svg_format(&flowgram->picture->svg,
                "<text class=\"left-out\" data-from=\"%" PRIu64 "\" data-to=\"%" PRIu64 "\" x=\"%d\" y=\"%" PRId64
                "\">Left out: flows %s to %s. A picture has at most %d rows.</text>\n",
-               from, flowgram->header.flows, PLOT_LEFT, y + 14, grouped(from).text,
-               grouped(flowgram->header.flows).text, MOST_ROWS);
+               from, flowgram->header.flows, PLOT_LEFT, y + 14, with_commas(from).text,
+               with_commas(flowgram->header.flows).text, MOST_ROWS);
 }
 
 static void draw_colours(struct flowgram *flowgram, int64_t y) {
@@ -274,14 +274,14 @@ static void draw_legend(void *subject, uint64_t index, int64_t top) {
                flowgram->part);
     svg_fitted(svg, part_of(flowgram->picture->file, read->name_start, read->name_length), read->name_length, NAME_FONT,
                NAME_WIDTH);
-    svg_format(svg, ": %s bases, ", grouped(read->bases).text);
+    svg_format(svg, ": %s bases, ", with_commas(read->bases).text);
     if (read->first <= read->last) {
-        svg_format(svg, "%s to %s kept", grouped(read->first).text, grouped(read->last).text);
+        svg_format(svg, "%s to %s kept", with_commas(read->first).text, with_commas(read->last).text);
     } else {
         svg_markup(svg, "none kept");
     }
-    svg_format(svg, "; %s flows; of %s reads</text>\n", grouped(flowgram->header.flows).text,
-               grouped(flowgram->header.reads).text);
+    svg_format(svg, "; %s flows; of %s reads</text>\n", with_commas(flowgram->header.flows).text,
+               with_commas(flowgram->header.reads).text);
     draw_colours(flowgram, y);
     draw_file_refused(flowgram->picture, PICTURE_WIDTH - PICTURE_MARGIN, y + 24);
 }

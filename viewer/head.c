@@ -122,11 +122,8 @@ static void draw_tag(struct picture *picture, uint64_t entry) {
     jt_entry entries[MOST_ENTRIES];
     jt_listed listed = jt_abif_list(file->bytes, file->length, entries, MOST_ENTRIES);
     if (listed.refusal == 0 && entry <= listed.count) {
-        struct tag_letters letters = tag_letters(entries[entry - 1].name);
         svg_markup(&picture->svg, ": ");
-        for (size_t i = 0; i < sizeof letters.bytes; i++) {
-            svg_letter(&picture->svg, letters.bytes[i]);
-        }
+        svg_string(&picture->svg, tag_text(entries[entry - 1].name).text);
         svg_format(&picture->svg, " %" PRId32, entries[entry - 1].number);
     }
 }

@@ -161,7 +161,8 @@ static void print_summary(const struct shelf *shelf) {
            files, shelf->whole, shelf->refused, shelf->unknown, shelf->unreadable);
     for (uint64_t refusal = 1; refusal < REFUSALS; refusal++) {
         if (shelf->by_number[refusal] > 0) {
-            printf("  refused %" PRIu64 ": %" PRIu64 " (%s)\n", refusal, shelf->by_number[refusal],
+            uint64_t counted = shelf->by_number[refusal];
+            printf("  %" PRIu64 " %s refused %" PRIu64 ": %s\n", counted, counted == 1 ? "file" : "files", refusal,
                    refusal_words(refusal));
         }
     }

@@ -78,7 +78,7 @@ void svg_grouped(struct svg *svg, int64_t number) {
     if (number < 0) {
         svg_markup(svg, "-");
     }
-    svg_markup(svg, grouped(magnitude(number)).text);
+    svg_markup(svg, with_commas(magnitude(number)).text);
 }
 
 void svg_tenths(struct svg *svg, int64_t tenths) {

@@ -33,7 +33,7 @@ struct grouped {
     char text[32];
 };
 
-struct grouped grouped(uint64_t number);
+struct grouped with_commas(uint64_t number);
 
 /* How wide a character is at most, in thousandths of the font's size. */
 unsigned character_width(uint32_t code);

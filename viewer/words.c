@@ -1,5 +1,7 @@
 #include "words.h"
 
+#include "text.h"
+
 #include <inttypes.h>
 #include <string.h>
 
@@ -107,35 +109,28 @@ void print_refused(const char *what, uint64_t refusal) {
     putchar('\n');
 }
 
-void print_bytes(const uint8_t *bytes, size_t length) {
-    for (size_t i = 0; i < length; i++) {
-        putchar(bytes[i] >= 32 && bytes[i] <= 126 ? bytes[i] : '.');
-    }
-}
-
 uint32_t tag_name(const char *letters) {
     const unsigned char *bytes = (const unsigned char *)letters;
     return (uint32_t)bytes[0] << 24 | (uint32_t)bytes[1] << 16 | (uint32_t)bytes[2] << 8 | bytes[3];
 }
 
-struct tag_letters tag_letters(uint32_t name) {
-    return (struct tag_letters){{(uint8_t)(name >> 24), (uint8_t)(name >> 16), (uint8_t)(name >> 8), (uint8_t)name}};
+struct tag_text tag_text(uint32_t name) {
+    struct tag_text tag = {.text = ""};
+    for (int i = 0; i < 4; i++) {
+        uint8_t byte = (uint8_t)(name >> (24 - 8 * i));
+        tag.text[i] = byte >= ' ' && byte <= '~' ? (char)byte : '.';
+    }
+    return tag;
 }
 
-void print_tag_name(uint32_t name) {
-    struct tag_letters letters = tag_letters(name);
-    print_bytes(letters.bytes, sizeof letters.bytes);
-}
-
-void print_path(FILE *out, const char *path) {
-    for (; *path != '\0'; path++) {
-        unsigned char byte = (unsigned char)*path;
-        fputc(byte < 32 || byte == 127 ? '?' : byte, out);
+void print_letters(const uint8_t *letters, size_t length) {
+    for (size_t i = 0; i < length; i++) {
+        putchar(letters[i] > ' ' && letters[i] <= '~' ? letters[i] : '.');
     }
 }
 
 void tell_failure(const char *path, const char *reason) {
     fputs("jtview: ", stderr);
-    print_path(stderr, path);
+    print_string(stderr, path);
     fprintf(stderr, ": %s\n", reason);
 }

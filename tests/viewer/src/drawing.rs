@@ -1,10 +1,12 @@
 //! Drawing a file, and the checks of all that comes of it.
 
 use crate::findings::Findings;
-use crate::picture;
+use crate::picture::{self, cleaned, is_or_shortened, of_class, pages};
 use crate::program::{Output, Program};
 use crate::scratch::Scratch;
+use crate::sentences;
 use crate::verdict::{self, Format};
+use crate::xml::Element;
 use crate::{abif, gtc, sff, workers, xml};
 use compare::report::Group;
 use std::ffi::OsString;
@@ -12,16 +14,45 @@ use std::fs;
 use std::os::unix::ffi::OsStrExt;
 use std::path::Path;
 
+const SVG_START: &[u8] = b"<svg xmlns=\"http://www.w3.org/2000/svg\" data-jtview=\"picture\"";
+const PAGES_START: &[u8] =
+    b"<!DOCTYPE html>\n<html xmlns=\"http://www.w3.org/1999/xhtml\" lang=\"en\" data-jtview=\"picture\"";
+
+/// The paper that pages are made for.
+#[derive(Clone, Copy, Debug, PartialEq, Eq)]
+pub struct Paper {
+    pub name: &'static str,
+    pub landscape: bool,
+}
+
+pub const PAPERS: [Paper; 4] = [
+    Paper::new("A4", false),
+    Paper::new("A4", true),
+    Paper::new("Letter", false),
+    Paper::new("Letter", true),
+];
+
+impl Paper {
+    const fn new(name: &'static str, landscape: bool) -> Paper {
+        Paper { name, landscape }
+    }
+}
+
 /// What may be asked of a picture.
 #[derive(Clone, Copy, Debug, Default)]
 pub struct Wish {
     pub raw: bool,
     pub read: Option<u64>,
+    pub points: Option<u64>,
+    /// Pages for this paper, and not one picture.
+    pub paper: Option<Paper>,
 }
 
 pub const PLAIN: Wish = Wish {
     raw: false,
     read: None,
+    points: None,
+    paper: None,
 };
 
 impl Wish {
@@ -36,6 +67,29 @@ impl Wish {
         }
     }
 
+    pub const fn points(number: u64) -> Wish {
+        Wish {
+            points: Some(number),
+            ..PLAIN
+        }
+    }
+
+    pub const fn pages(paper: Paper) -> Wish {
+        Wish {
+            paper: Some(paper),
+            ..PLAIN
+        }
+    }
+
+    /// What the name of the picture ends with.
+    pub fn ending(&self) -> &'static str {
+        if self.paper.is_some() {
+            "html"
+        } else {
+            "svg"
+        }
+    }
+
     pub fn arguments(&self, file: &Path, picture: &Path) -> Vec<OsString> {
         let mut arguments: Vec<OsString> = vec!["draw".into(), file.into(), "-o".into()];
         arguments.push(picture.into());
@@ -44,6 +98,13 @@ impl Wish {
         }
         if let Some(number) = self.read {
             arguments.extend(["--read".into(), number.to_string().into()]);
+        }
+        if let Some(number) = self.points {
+            arguments.extend(["--points".into(), number.to_string().into()]);
+        }
+        if let Some(paper) = self.paper {
+            arguments.extend(["--paper".into(), paper.name.into()]);
+            arguments.extend(paper.landscape.then(|| "--landscape".into()));
         }
         arguments
     }
@@ -80,15 +141,28 @@ pub fn draw(program: &Program, file: &Path, picture: &Path, wish: Wish) -> Drawn
 
 /// Draws each file and checks its picture.
 pub fn check_all(group: &mut Group, inputs: &[Input], wish: Wish) {
+    check_all_with(group, inputs, wish, |_, _| {});
+}
+
+/// The same, with another check of each picture that could be read.
+pub fn check_all_with(
+    group: &mut Group,
+    inputs: &[Input],
+    wish: Wish,
+    more: impl Fn(&mut Findings, &Element) + Sync,
+) {
     let program = Program::plain();
     let scratch = Scratch::new();
     let findings = workers::each(inputs.len(), |worker, index| {
         let input = &inputs[index];
         let file = scratch.write(format!("file-{worker}"), &input.bytes);
-        let picture = scratch.path(format!("picture-{worker}.svg"));
+        let picture = scratch.path(format!("picture-{worker}.{}", wish.ending()));
         let drawn = draw(&program, &file, &picture, wish);
         let mut findings = Findings::default();
         check_drawn(&mut findings, &drawn, &file, &input.bytes, wish);
+        if let Ok(root) = read(&drawn.picture.unwrap_or_default(), wish) {
+            more(&mut findings, &root);
+        }
         findings
     });
     for (found, input) in findings.into_iter().zip(inputs) {
@@ -97,19 +171,14 @@ pub fn check_all(group: &mut Group, inputs: &[Input], wish: Wish) {
     }
 }
 
-/// The checks of a run for this file: its picture, its line and its status.
+/// The checks of a run for this file: its picture, its lines and its status.
 pub fn check_drawn(findings: &mut Findings, drawn: &Drawn, file: &Path, bytes: &[u8], wish: Wish) {
     let output = &drawn.output;
     let Some(picture) = &drawn.picture else {
         return findings.check(false, || format!("no picture, {output:?}"));
     };
     let is_asked_refused = check_picture(findings, picture, file, bytes, wish);
-    let line = [
-        verdict::line(file.as_os_str().as_bytes(), bytes),
-        b"\n".to_vec(),
-    ]
-    .concat();
-    findings.check(output.stdout == line, || {
+    findings.check(output.stdout == lines(file, bytes), || {
         format!("printed {:?}", output.stdout_text())
     });
     findings.check(output.stderr.is_empty(), || {
@@ -121,6 +190,24 @@ pub fn check_drawn(findings: &mut Findings, drawn: &Drawn, file: &Path, bytes: &
     });
 }
 
+// The file's line, and under it what there is to say.
+fn lines(file: &Path, bytes: &[u8]) -> Vec<u8> {
+    let line = verdict::line(file.as_os_str().as_bytes(), bytes);
+    let below = sentences::explanation(bytes).map(|told| match told.headline {
+        Some(headline) => format!("  {headline}: {}\n", told.sentences),
+        None => format!("  {}\n", told.sentences),
+    });
+    [&line, &b"\n"[..], below.unwrap_or_default().as_bytes()].concat()
+}
+
+/// The picture's root, or what is not well-formed.
+pub fn read(picture: &[u8], wish: Wish) -> Result<Element, String> {
+    match wish.paper {
+        None => xml::read(picture),
+        Some(_) => xml::read_page(picture),
+    }
+}
+
 /// The checks of a picture; tells whether what was asked for is refused.
 pub fn check_picture(
     findings: &mut Findings,
@@ -129,42 +216,61 @@ pub fn check_picture(
     bytes: &[u8],
     wish: Wish,
 ) -> bool {
-    let root = match xml::read(picture) {
+    let root = match read(picture, wish) {
         Ok(root) => root,
         Err(fault) => {
             findings.check(false, || format!("not well-formed: {fault}"));
             return false;
         }
     };
+    let start = wish.paper.map_or(SVG_START, |_| PAGES_START);
+    findings.check(picture.starts_with(start), || {
+        "a picture that does not begin as one".to_string()
+    });
     check_name(findings, &root, file);
+    check_sizes(findings, &root);
     match Format::of(bytes) {
-        Format::Abif => abif::check::check(findings, &root, bytes, wish.raw),
+        Format::Abif => abif::check::check(findings, &root, bytes, wish.raw, wish.points),
         Format::Sff => sff::check::check(findings, &root, bytes, wish.read.unwrap_or(1)),
         Format::Gtc => gtc::check::check(findings, &root, bytes),
         Format::Unknown => check_unknown(findings, &root, bytes),
     }
 }
 
-// What no text can hold stands in the name as a mark for it; other than ASCII's need only be there.
-fn check_name(findings: &mut Findings, root: &xml::Element, file: &Path) {
-    let name = file.file_name().unwrap_or_default().as_bytes();
-    let shown = String::from_utf8_lossy(&verdict::shown_name(name)).into_owned();
+// The name of the file stands in the root, and over every page, there as far as there is room.
+fn check_name(findings: &mut Findings, root: &Element, file: &Path) {
+    let name = cleaned(file.file_name().unwrap_or_default().as_bytes());
     let found = root.attribute("data-name");
-    let plain = found.map(|found| found.replace('\u{FFFD}', "?"));
-    let fits = plain.is_some_and(|plain| !name.is_ascii() || plain.ends_with(&shown));
-    findings.check(fits, || format!("the name is {found:?} for {shown:?}"));
+    findings.check(found == Some(&name), || {
+        format!("the name is {found:?} for {name:?}")
+    });
+    for page in pages(root) {
+        let titles = of_class(page, "title");
+        let fits = matches!(titles[..], [title] if is_or_shortened(&title.words, &name));
+        findings.check(fits, || format!("the title is {titles:?} for {name:?}"));
+    }
+}
+
+// A picture that is no page says how large it is.
+fn check_sizes(findings: &mut Findings, root: &Element) {
+    for page in pages(root) {
+        let view = page.attribute("viewBox").unwrap_or("");
+        let sizes = ["width", "height"].map(|name| page.attribute(name).unwrap_or(""));
+        let is_told = view == format!("0 0 {} {}", sizes[0], sizes[1]) && sizes[0] == "1100";
+        findings.check(root.name == "html" || is_told, || {
+            format!("a picture of {sizes:?} in {view:?}")
+        });
+    }
 }
 
 // Nothing is drawn of a file that is of no format.
-fn check_unknown(findings: &mut Findings, root: &xml::Element, bytes: &[u8]) -> bool {
-    picture::check_frame(findings, root, bytes, &picture::Parts::new());
+fn check_unknown(findings: &mut Findings, root: &Element, bytes: &[u8]) -> bool {
+    picture::check_frame(findings, root, bytes, &picture::Parts::new(), str::to_string);
     let drawn = [
         "row", "trace", "letter", "quality", "flow", "clipped", "snps",
     ];
     let classes = drawn.into_iter().chain(["file-refused"]);
-    let count: usize = classes
-        .map(|class| picture::of_class(root, class).len())
-        .sum();
+    let count: usize = classes.map(|class| of_class(root, class).len()).sum();
     findings.check(count == 0, || format!("{count} drawn of an unknown file"));
     true
 }

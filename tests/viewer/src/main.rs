@@ -2,6 +2,7 @@
 //! stores its outputs anew: `viewer store`.
 
 mod abif;
+mod banner;
 mod drawing;
 mod findings;
 mod groups;
@@ -9,6 +10,7 @@ mod gtc;
 mod picture;
 mod program;
 mod scratch;
+mod sentences;
 mod sff;
 mod verdict;
 mod words;

@@ -1,9 +1,12 @@
 //! A picture that was read: its elements by their classes, and what all pictures have in common.
 
+use crate::banner;
 use crate::findings::Findings;
+use crate::sentences;
 use crate::verdict::{self, Format};
 use crate::xml::Element;
-use compare::refusal::{Refusal, Refused};
+use compare::refusal::Refusal;
+use compare::{abif, sff};
 use std::collections::BTreeSet;
 
 const HATCHING: &str = "url(#hatch)";
@@ -34,9 +37,45 @@ pub fn has_class(element: &Element, class: &str) -> bool {
     classes.split(' ').any(|other| other == class)
 }
 
+/// The pages of a picture; one that has none is a page itself.
+pub fn pages(root: &Element) -> Vec<&Element> {
+    match root.name.as_str() {
+        "html" => of_class(root, "page"),
+        _ => vec![root],
+    }
+}
+
 /// The attribute as a number, where it is one.
 pub fn number<T: std::str::FromStr>(element: &Element, attribute: &str) -> Option<T> {
     element.attribute(attribute)?.parse().ok()
+}
+
+/// The number with commas between its thousands.
+pub fn grouped(number: i64) -> String {
+    let digits = number.unsigned_abs().to_string();
+    let mut grouped = String::new();
+    for (index, digit) in digits.chars().enumerate() {
+        if index > 0 && (digits.len() - index) % 3 == 0 {
+            grouped.push(',');
+        }
+        grouped.push(digit);
+    }
+    let sign = if number < 0 { "-" } else { "" };
+    [sign, &grouped].concat()
+}
+
+/// Text from outside as it is shown.
+pub fn cleaned(bytes: &[u8]) -> String {
+    String::from_utf8_lossy(&verdict::shown_name(bytes)).into_owned()
+}
+
+/// Whether a text is the expected one, or one that a mark stands in for a piece of.
+pub fn is_or_shortened(found: &str, expected: &str) -> bool {
+    let is_shortened = |(before, behind)| {
+        let kept = str::len(before) + str::len(behind);
+        kept < expected.len() && expected.starts_with(before) && expected.ends_with(behind)
+    };
+    found == expected || found.split_once('…').is_some_and(is_shortened)
 }
 
 pub fn part(name: impl ToString, refusal: Refusal) -> (String, u64) {
@@ -53,107 +92,96 @@ pub fn hatched(root: &Element) -> Parts {
         .collect()
 }
 
-/// The checks of the root, the banner and the hatched boxes.
-pub fn check_frame(findings: &mut Findings, root: &Element, bytes: &[u8], parts: &Parts) {
-    let format = Format::of(bytes);
-    let refused = verdict::refused(bytes);
-    check_root(findings, root, format, refused);
-    check_banner(findings, root, format, refused);
+/// The checks of the root, the banner and the hatched boxes; `label` tells what a part's boxes call it.
+pub fn check_frame(
+    findings: &mut Findings,
+    root: &Element,
+    bytes: &[u8],
+    parts: &Parts,
+    label: impl Fn(&str) -> String,
+) {
+    check_root(findings, root, bytes);
+    banner::check(findings, root, bytes);
     let found = hatched(root);
     findings.check(found == *parts, || {
         format!("hatched are {found:?}, refused are {parts:?}")
     });
     check_hatching(findings, root, !parts.is_empty());
-    check_words(findings, root);
+    let is_lost = nothing_is_found(bytes);
+    check_words(findings, root, is_lost, label);
 }
 
-// Each box has its refusal in words, which do not run out of it.
-fn check_words(findings: &mut Findings, root: &Element) {
-    let boxes = of_class(root, "refused");
-    let words = of_class(root, "box");
-    findings.check(boxes.len() == words.len(), || {
-        format!("{} boxes with words in {}", boxes.len(), words.len())
-    });
-    for (hatched, words) in boxes.iter().zip(words) {
-        let refusal: u64 = number(hatched, "data-refusal").unwrap_or(0);
-        let part = hatched.attribute("data-part").unwrap_or("");
-        let text = words.text.as_str();
-        let meaning = text.split_once(&format!(": REFUSED {refusal}, "));
-        let is_told = meaning.is_some_and(|(label, meaning)| {
-            label.contains(part) && verdict::is_meaning(refusal, meaning)
-        });
-        findings.check(is_told, || {
-            format!("{part} refused {refusal} says {text:?}")
-        });
-        let width = number(hatched, "width").unwrap_or(0.0);
-        let fits = text.chars().count() as f64 * LETTER_WIDTH <= width;
-        findings.check(fits, || format!("{text:?} in {width} pixels"));
+// Whether the file tells not even where its parts would stand.
+fn nothing_is_found(bytes: &[u8]) -> bool {
+    match Format::of(bytes) {
+        Format::Abif => abif::reader::open(bytes).is_err(),
+        Format::Sff => sff::reader::header(bytes).is_err(),
+        Format::Gtc => verdict::refused(bytes).is_some_and(|refused| refused.entry == 0),
+        Format::Unknown => true,
     }
 }
 
-fn check_root(findings: &mut Findings, root: &Element, format: Format, refused: Option<Refused>) {
-    let namespace = root.attribute("xmlns");
-    let is_svg = root.name == "svg" && namespace == Some("http://www.w3.org/2000/svg");
-    findings.check(is_svg, || {
+// Each box has its refusal in words, which do not run out of it.
+fn check_words(
+    findings: &mut Findings,
+    root: &Element,
+    is_lost: bool,
+    label: impl Fn(&str) -> String,
+) {
+    let boxes = of_class(root, "refused");
+    let texts = of_class(root, "box");
+    findings.check(boxes.len() == texts.len(), || {
+        format!("{} boxes with words in {}", boxes.len(), texts.len())
+    });
+    for (hatched, text) in boxes.iter().zip(texts) {
+        let refusal: u64 = number(hatched, "data-refusal").unwrap_or(0);
+        let words = match is_lost {
+            true => "cannot be found",
+            false => sentences::words(refusal),
+        };
+        let part = hatched.attribute("data-part").unwrap_or("");
+        let expected = format!("{}: {words} (refused {refusal})", label(part));
+        findings.check(text.words == expected, || {
+            format!("{part} says {:?} and not {expected:?}", text.words)
+        });
+        check_room(findings, hatched, text);
+    }
+}
+
+fn check_room(findings: &mut Findings, hatched: &Element, text: &Element) {
+    let end = |element: &Element, width: f64| Some(number::<f64>(element, "x")? + width);
+    let width = number(hatched, "width").unwrap_or(0.0);
+    let words = text.words.chars().count() as f64 * LETTER_WIDTH;
+    let fits = end(text, words).zip(end(hatched, width));
+    findings.check(fits.is_some_and(|(text, hatched)| text <= hatched), || {
+        format!("{:?} in {width} pixels", text.words)
+    });
+}
+
+fn check_root(findings: &mut Findings, root: &Element, bytes: &[u8]) {
+    let namespace = root.attribute("xmlns").unwrap_or("");
+    let is_known = matches!(
+        (root.name.as_str(), namespace),
+        ("svg", "http://www.w3.org/2000/svg") | ("html", "http://www.w3.org/1999/xhtml")
+    );
+    findings.check(is_known, || {
         format!("the root is {} of {namespace:?}", root.name)
     });
+    let format = Format::of(bytes);
+    let refused = verdict::refused(bytes);
     let numbers = refused.map_or((0, 0), |it| (it.refusal as u64, it.entry as u64));
     let numbers = (format != Format::Unknown).then_some(numbers);
-    let expected = (
+    let expected = [
         Some(format.name().to_string()),
         numbers.map(|(refusal, _)| refusal.to_string()),
         numbers.map(|(_, entry)| entry.to_string()),
-    );
-    let text = |name| root.attribute(name).map(str::to_string);
-    let found = (
-        text("data-format"),
-        text("data-refusal"),
-        text("data-entry"),
-    );
+        Some("picture".to_string()),
+    ];
+    let names = ["data-format", "data-refusal", "data-entry", "data-jtview"];
+    let found = names.map(|name| root.attribute(name).map(str::to_string));
     findings.check(found == expected, || {
         format!("the root says {found:?} and not {expected:?}")
     });
-}
-
-fn check_banner(findings: &mut Findings, root: &Element, format: Format, refused: Option<Refused>) {
-    let texts = |class| -> Vec<String> {
-        let found = of_class(root, class).into_iter();
-        found
-            .map(|element| element.text.trim().to_string())
-            .collect()
-    };
-    let expected = match refused {
-        None if format == Format::Unknown => vec!["UNKNOWN".to_string()],
-        None => Vec::new(),
-        Some(it) => vec![format!("REFUSED {}", it.refusal as u64)],
-    };
-    let found = texts("verdict");
-    findings.check(found == expected, || format!("the verdict is {found:?}"));
-    let expected = refused.map(|it| verdict::meaning(it.refusal).to_string());
-    let found = texts("meaning");
-    findings.check(
-        format == Format::Unknown || found == Vec::from_iter(expected),
-        || format!("the meaning is {found:?}"),
-    );
-    let found = texts("entry");
-    let fits = match refused {
-        None => found.is_empty(),
-        Some(it) => matches!(&found[..], [one] if names_entry(one, format, it.entry)),
-    };
-    findings.check(fits, || {
-        format!("the entry is {found:?}, refused is {refused:?}")
-    });
-}
-
-// What the entry is called may stand behind its number.
-fn names_entry(text: &str, format: Format, entry: usize) -> bool {
-    let start = match (entry, format) {
-        (0, _) => "at the header".to_string(),
-        (_, Format::Sff) => format!("at read {entry}"),
-        (_, _) => format!("at entry {entry}"),
-    };
-    let behind = text.strip_prefix(&start);
-    behind.is_some_and(|behind| !behind.starts_with(|next: char| next.is_ascii_digit()))
 }
 
 // Boxes of a size, and nothing else, are hatched, by a pattern that is there.
@@ -161,7 +189,7 @@ fn check_hatching(findings: &mut Findings, root: &Element, is_used: bool) {
     for element in all(root) {
         let mut values = element.attributes.iter().map(|(_, value)| value.as_str());
         let is_hatched = values.any(|value| value.contains("#hatch"));
-        let is_box = has_class(element, "refused");
+        let is_box = has_class(element, "refused") || has_class(element, "ended");
         if !is_hatched && !is_box {
             continue;
         }
@@ -196,4 +224,24 @@ pub fn check_mark(findings: &mut Findings, root: &Element, is_drawn: bool, is_re
             marks.len()
         )
     });
+}
+
+/// The check of the text that tells from which to which number nothing is drawn.
+pub fn check_left_out(findings: &mut Findings, root: &Element, expected: Option<(usize, usize)>) {
+    let texts = of_class(root, "left-out").into_iter();
+    let found: Vec<Option<(usize, usize)>> = texts
+        .map(|text| number(text, "data-from").zip(number(text, "data-to")))
+        .collect();
+    let expected: Vec<_> = expected.map(Some).into_iter().collect();
+    findings.check(found == expected, || {
+        format!("left out are {found:?} and not {expected:?}")
+    });
+    for text in of_class(root, "left-out") {
+        let names = |number| text.words.contains(&grouped(number));
+        let numbers = number(text, "data-from").zip(number(text, "data-to"));
+        let is_told = numbers.is_some_and(|(from, to)| names(from) && names(to));
+        findings.check(text.name == "text" && is_told, || {
+            format!("{text:?} does not tell what is left out")
+        });
+    }
 }

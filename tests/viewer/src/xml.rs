@@ -1,11 +1,15 @@
 //! A strict reader of XML: what it takes is well-formed, with every attribute in double quotes.
 
+const DOCTYPE: &str = "<!DOCTYPE html>\n";
+
 #[derive(Debug, Default)]
 pub struct Element {
     pub name: String,
     pub attributes: Vec<(String, String)>,
     /// The text directly inside the element.
     pub text: String,
+    /// All text inside the element, that of the elements in it too.
+    pub words: String,
     pub children: Vec<Element>,
 }
 
@@ -14,6 +18,12 @@ impl Element {
         let mut found = self.attributes.iter().filter(|(other, _)| other == name);
         found.next().map(|(_, value)| value.as_str())
     }
+}
+
+/// The root element of a page, which stands behind the one line that makes it a page.
+pub fn read_page(bytes: &[u8]) -> Result<Element, String> {
+    let behind = bytes.strip_prefix(DOCTYPE.as_bytes());
+    read(behind.ok_or("no line of a page before the root")?)
 }
 
 /// The root element, or what is not well-formed.
@@ -34,11 +44,14 @@ pub fn read(bytes: &[u8]) -> Result<Element, String> {
     }
 }
 
+// No text from outside brings another one, and no text of the viewer's own needs one.
 fn is_allowed(letter: char) -> bool {
     match letter {
-        '\t' | '\n' => true,
-        '\u{0}'..='\u{1F}' | '\u{7F}' | '\u{FFFE}' | '\u{FFFF}' => false,
-        _ => true,
+        '\n' | '\t' => true,
+        '\u{0}'..='\u{1F}' | '\u{7F}'..='\u{9F}' | '\u{61C}' => false,
+        '\u{200B}'..='\u{200F}' | '\u{2028}'..='\u{202E}' | '\u{2060}'..='\u{2069}' => false,
+        '\u{FEFF}' | '\u{FFF9}'..='\u{FFFB}' | '\u{FDD0}'..='\u{FDEF}' => false,
+        _ => letter as u32 & 0xFFFE != 0xFFFE,
     }
 }
 
@@ -161,7 +174,9 @@ impl<'a> Reader<'a> {
             if text.contains("]]>") {
                 return Err(self.fault("]]> in a text"));
             }
-            element.text.push_str(&self.plain(text)?);
+            let plain = self.plain(text)?;
+            element.text.push_str(&plain);
+            element.words.push_str(&plain);
             self.at += length;
             if rest[length..].starts_with("</") {
                 return Ok(());
@@ -169,7 +184,9 @@ impl<'a> Reader<'a> {
             if rest[length..].starts_with("<!--") {
                 self.pass_comment()?;
             } else {
-                element.children.push(self.element()?);
+                let child = self.element()?;
+                element.words.push_str(&child.words);
+                element.children.push(child);
             }
         }
     }

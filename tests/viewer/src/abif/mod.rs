@@ -1,6 +1,14 @@
 //! Pictures of ABIF files.
 
+mod called;
 pub mod check;
-mod contents;
+pub mod contents;
 pub mod files;
+mod letters;
+mod lines;
 pub mod listed;
+mod range;
+mod scale;
+mod told;
+
+pub use letters::shows;

@@ -1,15 +1,20 @@
 //! The checks of an SFF file's picture.
 
-use crate::abif::check::shows;
+use crate::abif::shows;
 use crate::findings::Findings;
 use crate::picture::{self, number, of_class, part, Parts};
 use crate::verdict;
 use crate::xml::Element;
 use compare::big_endian::u16_at;
 use compare::sff::reader::{header, read, Header, Read, FIXED_HEADER};
-use std::collections::BTreeSet;
+use std::collections::{BTreeMap, BTreeSet};
 
 const FLOWS_IN_A_ROW: usize = 100;
+const FLOW_WIDTH: f64 = 10.0;
+/// No picture has more rows.
+const MOST_ROWS: usize = 200;
+/// No flow has more letters under it.
+const MOST_LETTERS: usize = 20;
 /// The last decimal that a height has, and what floats lose.
 const ROUNDING: f64 = 0.100_001;
 
@@ -21,7 +26,7 @@ pub fn check(findings: &mut Findings, root: &Element, bytes: &[u8], wanted: u64)
     parts.extend(header.err().map(|refusal| part("header", refusal)));
     let name = format!("read {wanted}");
     parts.extend(read.as_ref().err().map(|&refusal| part(name, refusal)));
-    picture::check_frame(findings, root, bytes, &parts);
+    picture::check_frame(findings, root, bytes, &parts, label_of);
     let is_refused = verdict::refused(bytes).is_some();
     picture::check_mark(findings, root, read.is_ok(), is_refused);
     match (header, &read) {
@@ -31,15 +36,29 @@ pub fn check(findings: &mut Findings, root: &Element, bytes: &[u8], wanted: u64)
     read.is_err()
 }
 
+// A read's number has commas in its label.
+fn label_of(part: &str) -> String {
+    let number = part.strip_prefix("read ").and_then(|number| number.parse().ok());
+    number.map_or(part.to_string(), |number| {
+        format!("read {}", picture::grouped(number))
+    })
+}
+
 fn check_empty(findings: &mut Findings, root: &Element) {
-    for class in ["flow", "letter", "clipped"] {
+    for class in ["flow", "letter", "clipped", "more", "left-out"] {
         let count = of_class(root, class).len();
         findings.check(count == 0, || format!("{count} of {class} without a read"));
     }
 }
 
 fn check_read(findings: &mut Findings, root: &Element, bytes: &[u8], header: Header, read: &Read) {
-    let flows = usize::from(header.flows);
+    let all_flows = usize::from(header.flows);
+    let flows = all_flows.min(MOST_ROWS * FLOWS_IN_A_ROW);
+    let rows = of_class(root, "row").len();
+    let expected = flows.div_ceil(FLOWS_IN_A_ROW).max(1);
+    findings.check(rows == expected, || format!("{rows} rows for {flows} flows"));
+    let left_out = (flows < all_flows).then_some((flows + 1, all_flows));
+    picture::check_left_out(findings, root, left_out);
     check_flows(findings, root, bytes, flows, read);
     let steps = &bytes[read.steps_start..read.letters_start];
     let places: Vec<usize> = steps
@@ -49,8 +68,10 @@ fn check_read(findings: &mut Findings, root: &Element, bytes: &[u8], header: Hea
             Some(*sum)
         })
         .collect();
-    check_letters(findings, root, bytes, &places, read);
-    check_clipped(findings, root, &clipped_flows(&places, flows, read));
+    check_letters(findings, root, bytes, &places, flows, read);
+    let mut clipped = clipped_flows(&places, all_flows, read);
+    clipped.retain(|&flow| flow <= flows);
+    check_clipped(findings, root, &clipped);
 }
 
 fn check_flows(findings: &mut Findings, root: &Element, bytes: &[u8], flows: usize, read: &Read) {
@@ -61,13 +82,21 @@ fn check_flows(findings: &mut Findings, root: &Element, bytes: &[u8], flows: usi
     for (index, flow) in found.iter().take(flows).enumerate() {
         let letter = bytes[FIXED_HEADER + index];
         let value = u16_at(bytes, read.flows_start + 2 * index);
+        let middle = number(flow, "x").zip(number(flow, "width"));
+        let middle = middle.map(|(x, width): (f64, f64)| x + width / 2.0);
         let fits = flow.name == "rect"
+            && middle == Some(middle_of(index + 1))
             && number(flow, "data-flow") == Some(index + 1)
             && number(flow, "data-value") == Some(value)
             && shows(flow.attribute("data-letter").unwrap_or(""), letter.into());
         findings.check(fits, || format!("{flow:?} for flow {}", index + 1));
     }
     check_heights(findings, &found);
+}
+
+// Where a flow, from one, stands in its row.
+fn middle_of(flow: usize) -> f64 {
+    FLOW_WIDTH * (((flow - 1) % FLOWS_IN_A_ROW) as f64 + 0.5)
 }
 
 // All bars that end below the highest are drawn to one scale.
@@ -95,27 +124,58 @@ fn check_heights(findings: &mut Findings, flows: &[&Element]) {
     });
 }
 
+// The letters under each flow that is drawn, as many as there is room for, and how many are more.
 fn check_letters(
     findings: &mut Findings,
     root: &Element,
     bytes: &[u8],
     places: &[usize],
+    flows: usize,
     read: &Read,
 ) {
+    let mut under: BTreeMap<usize, usize> = BTreeMap::new();
+    let mut expected = Vec::new();
+    for (index, &flow) in places.iter().enumerate().filter(|(_, &flow)| flow <= flows) {
+        let count = under.entry(flow).or_insert(0);
+        *count += 1;
+        if *count <= MOST_LETTERS {
+            expected.push((index, flow));
+        }
+    }
     let found = of_class(root, "letter");
-    findings.check(found.len() == places.len(), || {
-        format!("{} letters for {}", found.len(), places.len())
+    findings.check(found.len() == expected.len(), || {
+        format!("{} letters for {}", found.len(), expected.len())
     });
-    for (index, (letter, &flow)) in found.iter().zip(places).enumerate() {
+    for (letter, &(index, flow)) in found.iter().zip(&expected) {
         let base = index + 1;
         let is_kept = (read.first as usize..=read.last as usize).contains(&base);
         let fits = letter.name == "text"
+            && number(letter, "x") == Some(middle_of(flow))
             && number(letter, "data-base") == Some(base)
             && number(letter, "data-flow") == Some(flow)
             && picture::has_class(letter, "clipped") != is_kept
-            && shows(&letter.text, bytes[read.letters_start + index].into());
+            && shows(&letter.words, bytes[read.letters_start + index].into());
         findings.check(fits, || format!("{letter:?} for base {base}"));
     }
+    under.retain(|_, count| *count > MOST_LETTERS);
+    check_more(findings, root, &under);
+}
+
+fn check_more(findings: &mut Findings, root: &Element, under: &BTreeMap<usize, usize>) {
+    let told = |text: &Element| {
+        let flow: usize = number(text, "data-flow")?;
+        let count: usize = number(text, "data-count")?;
+        let is_told = text.words == format!("+{}", picture::grouped(count as i64));
+        is_told.then_some((flow, count))
+    };
+    let texts = of_class(root, "more");
+    let found: Vec<Option<(usize, usize)>> = texts.into_iter().map(told).collect();
+    let expected = under.iter();
+    let expected = expected.map(|(&flow, &count)| Some((flow, count - MOST_LETTERS)));
+    let expected: Vec<Option<(usize, usize)>> = expected.collect();
+    findings.check(found == expected, || {
+        format!("more letters are {found:?} and not {expected:?}")
+    });
 }
 
 // The flows on both sides of the insert, or all of them where there is none.
