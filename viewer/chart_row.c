@@ -12,19 +12,25 @@ struct outside {
     int64_t lowest;
 };
 
-/* The levels that have a number beside them, the most needed first: one that would stand upon another has none. */
-static void draw_levels(struct chart *chart, const struct chart_row *row) {
-    enum { LEVELS = 4, LINE_HEIGHT = 120 };
-    int64_t values[LEVELS] = {row->top, row->bottom, 0, row->top / 2};
-    for (int i = 0; i < LEVELS; i++) {
-        int64_t tenths = row_tenths(row, values[i]);
-        bool free = true;
-        for (int other = 0; other < i; other++) {
-            int64_t apart = tenths - row_tenths(row, values[other]);
-            free = free && (apart >= LINE_HEIGHT || apart <= -LINE_HEIGHT);
+/* Whether a level's number stands upon none of those before it. */
+static bool has_room(const struct chart_row *row, const int64_t values[], int level) {
+    enum { LINE_HEIGHT = 110 };
+    for (int other = 0; other < level; other++) {
+        int64_t apart = row_tenths(row, values[level]) - row_tenths(row, values[other]);
+        if (apart < LINE_HEIGHT && apart > -LINE_HEIGHT) {
+            return false;
         }
+    }
+    return true;
+}
+
+/* The levels, the most needed first: one that has no room for its number has none. */
+static void draw_levels(struct chart *chart, const struct chart_row *row) {
+    int64_t values[] = {row->top, 0, row->bottom, row->top / 2};
+    for (int i = 0; i < (int)(sizeof values / sizeof values[0]); i++) {
+        int64_t tenths = row_tenths(row, values[i]);
         draw_level(chart->picture, tenths);
-        if (free) {
+        if (has_room(row, values, i)) {
             draw_level_number(chart->picture, tenths, values[i]);
         }
     }
@@ -111,11 +117,19 @@ static void draw_values(void *context, uint64_t first, const int64_t *values, ui
     }
 }
 
+/* The values of one pixel after the other. */
 static void add_to_columns(void *context, uint64_t first, const int64_t *values, uint64_t count) {
     struct line *line = context;
-    for (uint64_t i = 0; i < count; i++) {
-        uint64_t column = PLOT_WIDTH * (first - line->first + i) / line->chart->points;
-        line->columns[column] = bounds_with(line->columns[column], &values[i], 1);
+    uint64_t points = line->chart->points;
+    uint64_t from = first - line->first;
+    uint64_t behind = from + count;
+    while (from < behind) {
+        uint64_t column = PLOT_WIDTH * from / points;
+        uint64_t next = ((column + 1) * points + PLOT_WIDTH - 1) / PLOT_WIDTH;
+        uint64_t end = next < behind ? next : behind;
+        line->columns[column] = bounds_with(line->columns[column], values, end - from);
+        values += end - from;
+        from = end;
     }
 }
 
