@@ -35,7 +35,7 @@ static void draw_dye(struct chart *chart, int channel) {
         svg_markup(svg, ", ");
     }
     if (wavelength != INT64_MIN) {
-        svg_number(svg, wavelength);
+        svg_grouped(svg, wavelength);
         svg_markup(svg, " nm, ");
     }
 }
