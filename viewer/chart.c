@@ -25,7 +25,9 @@ static void spell(struct spelled *spelled, uint64_t tenths, char behind) {
     spelled->text[spelled->length++] = behind;
 }
 
-uint64_t column_tenths(const struct chart *chart, uint64_t column) { return 10 * PLOT_WIDTH * column / chart->points; }
+uint64_t column_tenths(const struct chart *chart, uint64_t column) {
+    return 10 * PLOT_WIDTH * column / chart->points;
+}
 
 static void spell_coordinates(struct chart *chart) {
     bool wide = chart->points > PLOT_WIDTH;
@@ -37,7 +39,9 @@ static void spell_coordinates(struct chart *chart) {
     }
 }
 
-uint64_t first_point(const struct chart *chart, uint64_t row) { return chart->points * row; }
+uint64_t first_point(const struct chart *chart, uint64_t row) {
+    return chart->points * row;
+}
 
 uint64_t last_point(const struct chart *chart, uint64_t row) {
     uint64_t last = first_point(chart, row) + chart->points;
@@ -195,7 +199,9 @@ int row_height_above(const struct chart *chart) {
     return chart->qualified ? QUALITY_HEIGHT + LETTERS_HEIGHT + 8 : LETTERS_HEIGHT;
 }
 
-int lane_height(const struct chart *chart) { return chart->length > 0 ? 24 : 36; }
+int lane_height(const struct chart *chart) {
+    return chart->length > 0 ? 24 : 36;
+}
 
 static int lanes_of(const struct chart *chart, uint64_t row) {
     int lanes = refused_channels(chart->run);

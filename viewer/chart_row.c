@@ -222,7 +222,8 @@ static void draw_ended_words(struct chart *chart, int channel, struct box box) {
     char base = chart->run->bases[channel];
     char words[96];
     int length = snprintf(words, sizeof words, base != 0 ? "%s, base %c" : "%s", series->tag, base);
-    snprintf(words + length, sizeof words - (size_t)length, ": ends after point %s", with_commas(series->count - 1).text);
+    snprintf(words + length, sizeof words - (size_t)length, ": ends after point %s",
+             with_commas(series->count - 1).text);
     int64_t x = box.x + GAP;
     if (box.x >= ROOM + GAP) {
         x = box.x - ROOM;

@@ -45,7 +45,9 @@ static size_t line_length(const char *text) {
     return fits;
 }
 
-static const char *behind_line(const char *text, size_t length) { return text + length + (text[length] == ' '); }
+static const char *behind_line(const char *text, size_t length) {
+    return text + length + (text[length] == ' ');
+}
 
 static int meaning_lines(const struct picture *picture) {
     int lines = 0;
