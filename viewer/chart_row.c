@@ -39,7 +39,7 @@ static void draw_levels(struct chart *chart, const struct chart_row *row) {
 static void draw_scale(struct chart *chart, const struct chart_row *row) {
     struct svg *svg = &chart->picture->svg;
     draw_levels(chart, row);
-    svg_markup(svg, "<text class=\"small end\" x=\"-6\" y=\"-9\">signal</text>");
+    svg_markup(svg, "<text class=\"small end\" x=\"-10\" y=\"-9\">signal</text>");
     svg_format(svg, "<rect class=\"frame\" width=\"%d\" height=\"%d\"/>\n", PLOT_WIDTH, PLOT_HEIGHT);
 }
 
