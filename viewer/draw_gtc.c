@@ -16,7 +16,7 @@ enum {
     GENOTYPES = 46,     /* the classes are the genotypes by their codes */
     UNREAD = GENOTYPES, /* the class of SNPs whose genotypes cannot be read */
     CLASSES,
-    PLOT_SIZE = 600,
+    PLOT_SIZE = 560,
     PIXELS = (PLOT_SIZE + 1) * (PLOT_SIZE + 1),
     PLOT_GAP = 12,
     LEGEND_LEFT = PLOT_LEFT + PLOT_SIZE + 40
