@@ -2,6 +2,7 @@
 
 #include "run.h"
 #include "table.h"
+#include "text.h"
 #include "words.h"
 
 #include <inttypes.h>

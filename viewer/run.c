@@ -1,6 +1,5 @@
 #include "run.h"
 
-#include "jintarueng.h"
 #include "words.h"
 
 #include <inttypes.h>
@@ -34,6 +33,21 @@ uint64_t series_values(const struct file *file, const struct series *series, uin
     }
     return jt_abif_whole_numbers(file->bytes, file->length, series->name, series->number, first + 1, values, room)
         .count;
+}
+
+void series_visit(const struct file *file, const struct series *series, uint64_t first, uint64_t behind,
+                  visit_values *visit, void *context) {
+    enum { AT_ONCE = 8192 };
+    int64_t values[AT_ONCE];
+    while (first < behind) {
+        uint64_t left = behind - first;
+        uint64_t count = series_values(file, series, first, values, left < AT_ONCE ? left : AT_ONCE);
+        if (count == 0) {
+            return;
+        }
+        visit(context, first, values, count);
+        first += count;
+    }
 }
 
 int64_t first_value(const struct file *file, const char *name, int32_t number, int64_t otherwise) {
@@ -115,9 +129,23 @@ static void read_letters(struct run *run) {
     run->qualified = read && run->qualities.refusal == 0 && run->qualities.count == run->letters.count;
 }
 
+static bool is_fragment(const struct file *file) {
+    return is_missing(file, "FWO_", 1) && is_missing(file, "PBAS", 1) && is_missing(file, "PBAS", 2);
+}
+
+/* Sequencing files have it in SMPL, files of fragments in SpNm. */
+jt_part run_sample_name(const struct file *file) {
+    bool fragment = is_fragment(file);
+    jt_part name = jt_abif_text(file->bytes, file->length, tag_name(fragment ? "SpNm" : "SMPL"), 1);
+    if (name.refusal == 0) {
+        return name;
+    }
+    return jt_abif_text(file->bytes, file->length, tag_name(fragment ? "SMPL" : "SpNm"), 1);
+}
+
 void run_read(struct run *run, const struct file *file, bool raw) {
     *run = (struct run){.file = file, .raw = raw || lacks_analysed(file)};
-    run->fragment = is_missing(file, "FWO_", 1) && is_missing(file, "PBAS", 1) && is_missing(file, "PBAS", 2);
+    run->fragment = is_fragment(file);
     read_channels(run);
     read_order(run);
     read_letters(run);

@@ -3,6 +3,7 @@
 #define VIEWER_RUN_H
 
 #include "file.h"
+#include "jintarueng.h"
 
 #include <stdbool.h>
 
@@ -42,8 +43,18 @@ void run_read(struct run *run, const struct file *file, bool raw);
 uint64_t series_values(const struct file *file, const struct series *series, uint64_t first, int64_t *values,
                        uint64_t room);
 
+/* Values of an item, some thousands at a time: so many, from number `first`, from 0, on. */
+typedef void visit_values(void *context, uint64_t first, const int64_t *values, uint64_t count);
+
+/* Visits the values from number `first` on, as far as they are there, to just before number `behind`. */
+void series_visit(const struct file *file, const struct series *series, uint64_t first, uint64_t behind,
+                  visit_values *visit, void *context);
+
 /* An item's first element, where it is a whole number; else `otherwise`. */
 int64_t first_value(const struct file *file, const char *name, int32_t number, int64_t otherwise);
+
+/* Where the name that the file gives its sample stands, or its refusal. */
+jt_part run_sample_name(const struct file *file);
 
 /* How many channels are refused, and whether the directory has one at all. */
 int refused_channels(const struct run *run);

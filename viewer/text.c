@@ -1,5 +1,6 @@
 #include "text.h"
 
+#include <inttypes.h>
 #include <stdbool.h>
 #include <string.h>
 
@@ -73,7 +74,24 @@ void print_text(FILE *out, const uint8_t *bytes, size_t length) {
     }
 }
 
-void print_string(FILE *out, const char *string) { print_text(out, (const uint8_t *)string, strlen(string)); }
+void print_string(FILE *out, const char *string) {
+    print_text(out, (const uint8_t *)string, strlen(string));
+}
+
+struct grouped with_commas(uint64_t number) {
+    struct grouped grouped;
+    char digits[32];
+    int count = snprintf(digits, sizeof digits, "%" PRIu64, number);
+    int length = 0;
+    for (int i = 0; i < count; i++) {
+        if (i > 0 && (count - i) % 3 == 0) {
+            grouped.text[length++] = ',';
+        }
+        grouped.text[length++] = digits[i];
+    }
+    grouped.text[length] = '\0';
+    return grouped;
+}
 
 /* The widths are those of a bold and wide font, in tenths, so that others stay below them. */
 unsigned character_width(uint32_t code) {

@@ -28,6 +28,13 @@ struct character text_character(const uint8_t *bytes, size_t length);
 void print_text(FILE *out, const uint8_t *bytes, size_t length);
 void print_string(FILE *out, const char *string);
 
+/* A number with commas between its thousands. */
+struct grouped {
+    char text[32];
+};
+
+struct grouped with_commas(uint64_t number);
+
 /* How wide a character is at most, in thousandths of the font's size. */
 unsigned character_width(uint32_t code);
 

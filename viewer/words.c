@@ -109,34 +109,15 @@ void print_refused(const char *what, uint64_t refusal) {
     putchar('\n');
 }
 
-struct grouped with_commas(uint64_t number) {
-    struct grouped grouped = {.text = ""};
-    char digits[GROUPED_LENGTH];
-    int length = snprintf(digits, sizeof digits, "%" PRIu64, number);
-    char *end = grouped.text;
-    for (int i = 0; i < length; i++) {
-        if (i > 0 && (length - i) % 3 == 0) {
-            *end++ = ',';
-        }
-        *end++ = digits[i];
-    }
-    return grouped;
-}
-
 uint32_t tag_name(const char *letters) {
     const unsigned char *bytes = (const unsigned char *)letters;
     return (uint32_t)bytes[0] << 24 | (uint32_t)bytes[1] << 16 | (uint32_t)bytes[2] << 8 | bytes[3];
 }
 
-struct tag_letters tag_letters(uint32_t name) {
-    return (struct tag_letters){{(uint8_t)(name >> 24), (uint8_t)(name >> 16), (uint8_t)(name >> 8), (uint8_t)name}};
-}
-
 struct tag_text tag_text(uint32_t name) {
-    struct tag_letters letters = tag_letters(name);
     struct tag_text tag = {.text = ""};
-    for (size_t i = 0; i < sizeof letters.bytes; i++) {
-        uint8_t byte = letters.bytes[i];
+    for (int i = 0; i < 4; i++) {
+        uint8_t byte = (uint8_t)(name >> (24 - 8 * i));
         tag.text[i] = byte >= ' ' && byte <= '~' ? (char)byte : '.';
     }
     return tag;

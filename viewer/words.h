@@ -53,13 +53,8 @@ void genotype_name(int code, int ploidy, int b_alleles, char name[GENOTYPE_LENGT
 /* An ABIF directory's most entries, and the most bytes of data that stand in the entry itself. */
 enum { MOST_ENTRIES = 999, MOST_INLINE_BYTES = 4 };
 
-/* A tag's name as a number, from its four letters, and its four bytes. */
-struct tag_letters {
-    uint8_t bytes[4];
-};
-
+/* A tag's name as a number, from its four letters. */
 uint32_t tag_name(const char *letters);
-struct tag_letters tag_letters(uint32_t name);
 
 /* A tag's name as it is shown: bytes outside 32 to 126 as a full stop. */
 struct tag_text {
@@ -70,14 +65,5 @@ struct tag_text tag_text(uint32_t name);
 
 /* Prints flow letters or key letters: those that cannot be seen as a full stop. */
 void print_letters(const uint8_t *letters, size_t length);
-
-/* A number with commas between its thousands. */
-enum { GROUPED_LENGTH = 28 };
-
-struct grouped {
-    char text[GROUPED_LENGTH];
-};
-
-struct grouped with_commas(uint64_t number);
 
 #endif
