@@ -74,7 +74,7 @@ impl Asked {
         }
     }
 
-    const fn refused(self) -> Asked {
+    pub const fn refused(self) -> Asked {
         Asked {
             refused: true,
             ..self
