@@ -3,6 +3,7 @@
 mod broken_pictures;
 mod cuts;
 mod damaged;
+mod export;
 mod interrupted;
 mod lines;
 mod list_and_show;
@@ -14,11 +15,12 @@ mod rows;
 mod sanitized;
 mod shelf;
 pub mod stored;
+mod terminal;
 mod well_formed;
 
 use compare::report::Run;
 
-pub const ALL: [(&str, Run); 19] = [
+pub const ALL: [(&str, Run); 21] = [
     ("lines", lines::lines),
     ("shelf", shelf::shelf),
     ("stored", stored::compare),
@@ -26,6 +28,8 @@ pub const ALL: [(&str, Run); 19] = [
     ("not readable", not_readable::not_readable),
     ("interrupted", interrupted::interrupted),
     ("list and show", list_and_show::list_and_show),
+    ("export", export::export),
+    ("terminal", terminal::terminal),
     ("rows", rows::rows),
     ("orders", orders::orders),
     ("long files", long_files::long_files),
