@@ -26,13 +26,15 @@ pub struct Paper {
 }
 
 pub const PAPERS: [Paper; 4] = [
-    Paper::new("A4", false),
+    Paper::A4,
     Paper::new("A4", true),
     Paper::new("Letter", false),
     Paper::new("Letter", true),
 ];
 
 impl Paper {
+    pub const A4: Paper = Paper::new("A4", false);
+
     const fn new(name: &'static str, landscape: bool) -> Paper {
         Paper { name, landscape }
     }
@@ -265,7 +267,13 @@ fn check_sizes(findings: &mut Findings, root: &Element) {
 
 // Nothing is drawn of a file that is of no format.
 fn check_unknown(findings: &mut Findings, root: &Element, bytes: &[u8]) -> bool {
-    picture::check_frame(findings, root, bytes, &picture::Parts::new(), str::to_string);
+    picture::check_frame(
+        findings,
+        root,
+        bytes,
+        &picture::Parts::new(),
+        str::to_string,
+    );
     let drawn = [
         "row", "trace", "letter", "quality", "flow", "clipped", "snps",
     ];

@@ -28,7 +28,10 @@ fn check_channel(
     channel: &Channel,
 ) {
     let start = format!("{} ", channel.part);
-    let mut lines: Vec<&&str> = texts.iter().filter(|text| text.starts_with(&start)).collect();
+    let mut lines: Vec<&&str> = texts
+        .iter()
+        .filter(|text| text.starts_with(&start))
+        .collect();
     lines.retain(|line| line.contains(" points") || line.contains('…'));
     let expected = channel.values.as_ref().ok().map(|values| {
         let mut line = channel.part.clone();
@@ -93,7 +96,9 @@ fn check_notes(findings: &mut Findings, texts: &[&str], contents: &Contents) {
         "Letters not shown, because their trace cannot be read at their place: {}.",
         grouped(contents.hidden as i64)
     );
-    let mut told = texts.iter().filter(|text| text.starts_with("Letters not shown"));
+    let mut told = texts
+        .iter()
+        .filter(|text| text.starts_with("Letters not shown"));
     let fits = match told.next() {
         None => contents.hidden == 0,
         Some(told) => contents.hidden > 0 && **told == hidden,

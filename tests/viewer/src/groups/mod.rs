@@ -1,15 +1,21 @@
 //! The test groups.
 
 mod broken_pictures;
+mod colours;
 mod cuts;
 mod damaged;
+mod dyes;
 mod interrupted;
 mod lines;
 mod list_and_show;
 mod long_files;
+mod memory;
 mod not_readable;
 mod options;
 mod orders;
+mod pages;
+mod points;
+mod printed;
 mod rows;
 mod sanitized;
 mod shelf;
@@ -18,7 +24,7 @@ mod well_formed;
 
 use compare::report::Run;
 
-pub const ALL: [(&str, Run); 19] = [
+pub const ALL: [(&str, Run); 27] = [
     ("lines", lines::lines),
     ("shelf", shelf::shelf),
     ("stored", stored::compare),
@@ -27,6 +33,9 @@ pub const ALL: [(&str, Run); 19] = [
     ("interrupted", interrupted::interrupted),
     ("list and show", list_and_show::list_and_show),
     ("rows", rows::rows),
+    ("points", points::points),
+    ("dyes", dyes::dyes),
+    ("fragments", dyes::fragments),
     ("orders", orders::orders),
     ("long files", long_files::long_files),
     ("cuts ABIF", cuts::abif),
@@ -37,5 +46,10 @@ pub const ALL: [(&str, Run); 19] = [
     ("damaged GTC", damaged::gtc),
     ("well-formed", well_formed::well_formed),
     ("broken pictures", broken_pictures::broken_pictures),
+    ("pages", pages::pages),
+    ("printed", printed::printed),
+    ("labels", printed::labels),
+    ("colours", colours::colours),
+    ("memory", memory::memory),
     ("sanitized", sanitized::sanitized),
 ];
