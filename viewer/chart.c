@@ -1,15 +1,18 @@
 #include "chart.h"
 
 #include "memory.h"
-#include "scale.h"
+#include "progress.h"
 
+#include <inttypes.h>
 #include <stdlib.h>
 #include <string.h>
 
-static void spell(struct spelled *spelled, int tenths, char behind) {
+enum { LOWEST_TOP = 100, LEAST_BELOW = 10 };
+
+static void spell(struct spelled *spelled, uint64_t tenths, char behind) {
     char digits[sizeof spelled->text];
     size_t count = 0;
-    for (int rest = tenths / 10; rest > 0 || count == 0; rest /= 10) {
+    for (uint64_t rest = tenths / 10; rest > 0 || count == 0; rest /= 10) {
         digits[count++] = (char)('0' + rest % 10);
     }
     while (count > 0) {
@@ -22,130 +25,213 @@ static void spell(struct spelled *spelled, int tenths, char behind) {
     spelled->text[spelled->length++] = behind;
 }
 
+uint64_t column_tenths(const struct chart *chart, uint64_t column) { return 10 * PLOT_WIDTH * column / chart->points; }
+
 static void spell_coordinates(struct chart *chart) {
-    for (int i = 0; i <= POINTS; i++) {
-        spell(&chart->x[i], 10 * POINT_WIDTH * i, ',');
+    bool wide = chart->points > PLOT_WIDTH;
+    for (uint64_t i = 0; i <= (wide ? PLOT_WIDTH : chart->points); i++) {
+        spell(&chart->x[i], wide ? 10 * i : column_tenths(chart, i), ',');
     }
-    for (int i = 0; i <= 10 * PLOT_HEIGHT; i++) {
+    for (uint64_t i = 0; i <= 10 * PLOT_HEIGHT; i++) {
         spell(&chart->y[i], i, ' ');
     }
 }
 
-/* Each channel by itself has nearly all of its values on the scale, so that none can lie outside as a whole. */
-static void choose_scale(struct chart *chart) {
-    enum { LOWEST_TOP = 100, LEAST_BELOW = 10 };
-    int64_t top = LOWEST_TOP;
-    int64_t below = 0;
-    struct bounds all = {0, 0};
-    for (int i = 0; i < CHANNELS; i++) {
-        const struct item_numbers *channel = &chart->run->channels[i];
-        struct bounds bounds = bounds_of(channel->values, channel->count);
-        int64_t up = usual_level(channel->values, channel->count, 1, bounds.highest);
-        int64_t down = usual_level(channel->values, channel->count, -1, -bounds.lowest);
-        top = up > top ? up : top;
-        below = down > below ? down : below;
-        all.highest = bounds.highest > all.highest ? bounds.highest : all.highest;
-        all.lowest = bounds.lowest < all.lowest ? bounds.lowest : all.lowest;
-    }
-    chart->top = round_above(top);
-    below = below > 0 ? round_above(below) : 0;
-    chart->bottom = below == 0 || below > chart->top / LEAST_BELOW ? -below : -chart->top / LEAST_BELOW;
-    chart->tenths = 10.0 * PLOT_HEIGHT / (double)(chart->top - chart->bottom);
-    chart->off_scale = all.highest > chart->top || all.lowest < chart->bottom;
+uint64_t first_point(const struct chart *chart, uint64_t row) { return chart->points * row; }
+
+uint64_t last_point(const struct chart *chart, uint64_t row) {
+    uint64_t last = first_point(chart, row) + chart->points;
+    return last < chart->length ? last : chart->length - 1;
 }
 
-/* The row of a letter's place; where its trace ends with the point that two rows share, the first of them. */
-static uint64_t row_of(const struct run *run, uint64_t i) {
-    uint64_t place = (uint64_t)run->places.values[i];
-    bool shared = place > 0 && place % POINTS == 0;
-    return place / POINTS - (shared && letter_ends_a_trace(run, i) ? 1 : 0);
+bool has_ended(const struct chart *chart, int channel, uint64_t row) {
+    const struct series *series = &chart->run->channels[channel];
+    return series->refusal == 0 && series->count < chart->length && series->count <= last_point(chart, row);
 }
 
-/* From the last letter to the first, so that each row's stand in order. */
-static void sort_letters(struct chart *chart) {
+static void add_to_bounds(void *context, uint64_t first, const int64_t *values, uint64_t count) {
+    struct bounds *bounds = context;
+    (void)first;
+    *bounds = bounds_with(*bounds, values, count);
+}
+
+/* The bounds of each channel in a row, and of all rows. */
+static void bound_row(struct chart *chart, uint64_t row) {
     const struct run *run = chart->run;
-    for (uint64_t base = run->letters.count; base > 0; base--) {
-        if (letter_is_shown(run, base - 1)) {
-            uint64_t row = row_of(run, base - 1);
-            chart->next_letter[base - 1] = chart->first_letter[row];
-            chart->first_letter[row] = base;
-        } else {
-            chart->hidden++;
+    uint64_t first = first_point(chart, row);
+    for (int i = 0; i < run->channel_count; i++) {
+        struct bounds *bounds = &chart->rows[row].bounds[i];
+        *bounds = bounds_of_none();
+        series_visit(run->file, &run->channels[i], first, first + chart->points + 1, add_to_bounds, bounds);
+        chart->range = bounds_of_both(chart->range, *bounds);
+    }
+}
+
+static bool is_flat(const struct chart *chart, uint64_t row) {
+    enum { OUT_OF = 50 };
+    int64_t most = (chart->range.highest - chart->range.lowest) / OUT_OF;
+    for (int i = 0; i < chart->run->channel_count; i++) {
+        struct bounds bounds = chart->rows[row].bounds[i];
+        if (bounds.lowest <= bounds.highest && bounds.highest - bounds.lowest > most) {
+            return false;
         }
     }
+    return true;
 }
 
-void chart_prepare(struct chart *chart) {
-    enum { LEAST_TOP_QUALITY = 60 };
+/* The flat rows before the first that is not; none where all are flat. */
+static void fold_front(struct chart *chart) {
     const struct run *run = chart->run;
-    chart->length = run_length(run);
-    chart->rows = chart->length <= 1 ? 1 : (chart->length - 2) / POINTS + 1;
-    chart->lettered = run->placed && run->bases[0] != 0;
-    chart->first_letter = take(chart->rows, sizeof *chart->first_letter);
-    chart->next_letter = take(run->letters.count, sizeof *chart->next_letter);
-    choose_scale(chart);
-    spell_coordinates(chart);
-    chart->top_quality = LEAST_TOP_QUALITY;
-    if (chart->lettered) {
-        sort_letters(chart);
+    uint64_t flat = 0;
+    while (flat < chart->row_count && is_flat(chart, flat)) {
+        flat++;
     }
-    if (run->qualified) {
-        int64_t highest = bounds_of(run->qualities.values, run->qualities.count).highest;
-        chart->top_quality = highest > LEAST_TOP_QUALITY ? highest : LEAST_TOP_QUALITY;
+    chart->folded = flat < chart->row_count ? flat : 0;
+    chart->front = bounds_of_none();
+    for (int i = 0; i < run->channel_count; i++) {
+        series_visit(run->file, &run->channels[i], 0, first_point(chart, chart->folded), add_to_bounds, &chart->front);
+    }
+}
+
+static void set_scale(struct chart_row *row, int64_t top, int64_t below) {
+    row->top = round_above(top);
+    below = below > 0 ? round_above(below) : 0;
+    row->bottom = below == 0 || below > row->top / LEAST_BELOW ? -below : -row->top / LEAST_BELOW;
+    row->tenths = 10.0 * PLOT_HEIGHT / (double)(row->top - row->bottom);
+}
+
+/* A row of a fragment run has all of its values on a scale of its own, on which small peaks are seen and noise stays
+   small. */
+static void choose_row_scale(struct chart *chart, struct chart_row *row) {
+    struct bounds bounds = {0, (chart->range.highest + LEAST_BELOW - 1) / LEAST_BELOW};
+    for (int i = 0; i < chart->run->channel_count; i++) {
+        bounds = bounds_of_both(bounds, row->bounds[i]);
+    }
+    set_scale(row, bounds.highest > LOWEST_TOP ? bounds.highest : LOWEST_TOP, -bounds.lowest);
+}
+
+/* How far a channel's values lie above and below 0. */
+struct levels {
+    const struct chart *chart;
+    uint64_t channel;
+    struct distances above;
+    struct distances below;
+};
+
+static void add_to_levels(void *context, uint64_t first, const int64_t *values, uint64_t count) {
+    struct levels *levels = context;
+    uint64_t rows = levels->chart->row_count;
+    uint64_t channels = (uint64_t)levels->chart->run->channel_count;
+    distances_add(&levels->above, values, count);
+    distances_add(&levels->below, values, count);
+    progress_show(rows * channels + rows * levels->channel + first / levels->chart->points, 3 * rows * channels);
+}
+
+/* Each channel by itself has nearly all of its values on the scale, so that none can lie outside as a whole. */
+static void choose_common_scale(struct chart *chart) {
+    const struct run *run = chart->run;
+    struct levels *levels = take(1, sizeof *levels);
+    levels->chart = chart;
+    int64_t top = LOWEST_TOP;
+    int64_t below = 0;
+    for (int i = 0; i < run->channel_count; i++) {
+        levels->channel = (uint64_t)i;
+        distances_begin(&levels->above, 1, chart->range.highest);
+        distances_begin(&levels->below, -1, -chart->range.lowest);
+        series_visit(run->file, &run->channels[i], 0, first_point(chart, chart->row_count) + 1, add_to_levels, levels);
+        int64_t up = usual_level(&levels->above);
+        int64_t down = usual_level(&levels->below);
+        top = up > top ? up : top;
+        below = down > below ? down : below;
+    }
+    for (uint64_t row = 0; row < chart->row_count; row++) {
+        set_scale(&chart->rows[row], top, below);
+    }
+    chart->off_scale = chart->range.highest > chart->rows[0].top || chart->range.lowest < chart->rows[0].bottom;
+    free(levels);
+}
+
+static void choose_scales(struct chart *chart) {
+    for (uint64_t row = 0; row < chart->row_count; row++) {
+        bound_row(chart, row);
+        progress_show(row, 3 * chart->row_count);
+    }
+    if (!chart->run->fragment) {
+        choose_common_scale(chart);
+        return;
+    }
+    fold_front(chart);
+    for (uint64_t row = 0; row < chart->row_count; row++) {
+        choose_row_scale(chart, &chart->rows[row]);
+    }
+}
+
+void chart_prepare(struct chart *chart, uint64_t points) {
+    const struct run *run = chart->run;
+    chart->points = points;
+    chart->length = run_length(run);
+    chart->total_rows = chart->length <= 1 ? 1 : (chart->length - 2) / points + 1;
+    chart->row_count = chart->total_rows < MOST_ROWS ? chart->total_rows : MOST_ROWS;
+    chart->lettered = !run->raw && run->placed && run->bases[0] != 0;
+    chart->qualified = chart->lettered && run->qualified;
+    chart->rows = take(chart->row_count, sizeof *chart->rows);
+    spell_coordinates(chart);
+    choose_scales(chart);
+    if (chart->lettered) {
+        chart_sort_letters(chart);
     }
 }
 
 void chart_free(struct chart *chart) {
-    free(chart->first_letter);
-    free(chart->next_letter);
+    free(chart->rows);
     free(chart);
 }
 
-int refused_channels(const struct run *run) {
-    int refused = 0;
-    for (int i = 0; i < CHANNELS; i++) {
-        refused += run->channels[i].refusal != 0;
-    }
-    return refused;
-}
-
 int row_height_above(const struct chart *chart) {
-    enum { WITHOUT_LETTERS = 8 };
+    enum { WITHOUT_LETTERS = 20 };
     if (chart->length == 0) {
         return 0;
     }
     if (!chart->lettered) {
         return WITHOUT_LETTERS;
     }
-    return chart->run->qualified ? QUALITY_HEIGHT + LETTERS_HEIGHT : LETTERS_HEIGHT;
+    return chart->qualified ? QUALITY_HEIGHT + LETTERS_HEIGHT + 8 : LETTERS_HEIGHT;
 }
 
-int lane_height(const struct chart *chart) {
-    return chart->length > 0 ? 24 : 48;
+int lane_height(const struct chart *chart) { return chart->length > 0 ? 24 : 36; }
+
+static int lanes_of(const struct chart *chart, uint64_t row) {
+    int lanes = refused_channels(chart->run);
+    for (int i = 0; i < chart->run->channel_count && chart->length > 0; i++) {
+        lanes += has_ended(chart, i, row);
+    }
+    return lanes;
 }
 
-int row_height(const struct chart *chart) {
-    enum { GAP = 22 };
+int row_height(const struct chart *chart, uint64_t row) {
+    enum { GAP = 18 };
     int plot = chart->length > 0 ? PLOT_HEIGHT + AXIS_HEIGHT : 0;
-    return row_height_above(chart) + plot + refused_channels(chart->run) * lane_height(chart) + GAP;
+    return row_height_above(chart) + plot + lanes_of(chart, row) * lane_height(chart) + GAP;
 }
 
 const char *channel_colour(const struct run *run, int channel) {
-    static const char *const colours[CHANNELS] = {"#333", "#7b3294", "#c2702e", "#5fb3dd"};
-    return run->bases[channel] != 0 ? letter_colour(run->bases[channel]) : colours[channel];
+    static const char *const colours[] = {"#0c00a0", "#0c846c", "#000", "#90300c", "#b3006b", "#5b6b00", "#5c4a8f"};
+    enum { COLOURS = sizeof colours / sizeof colours[0] };
+    return run->bases[channel] != 0 ? letter_colour(run->bases[channel]) : colours[channel % COLOURS];
 }
 
 const char *channel_dashes(const struct run *run, int channel) {
-    static const char *const dashes[CHANNELS] = {"none", "6 2", "2 2", "8 2 2 2"};
+    static const char *const dashes[] = {"none", "6 2", "2 2", "8 2 2 2", "12 3", "1 3", "4 1 1 1"};
     static const char bases[] = "AGTC";
+    enum { DASHES = sizeof dashes / sizeof dashes[0] };
     char base = run->bases[channel];
-    return dashes[base != 0 ? strchr(bases, base) - bases : channel];
+    return dashes[base != 0 ? strchr(bases, base) - bases : (channel + channel / DASHES) % DASHES];
 }
 
 void draw_refused_channel(struct chart *chart, int channel, struct box box) {
-    const struct item_numbers *numbers = &chart->run->channels[channel];
+    const struct series *series = &chart->run->channels[channel];
     char base = chart->run->bases[channel];
     char label[32];
-    snprintf(label, sizeof label, base != 0 ? "%s, base %c" : "%s", numbers->tag, base);
-    draw_refused(chart->picture, (struct refused){numbers->tag, label, 0, numbers->refusal}, box);
+    snprintf(label, sizeof label, base != 0 ? "%s, base %c" : "%s", series->tag, base);
+    draw_refused(chart->picture, (struct refused){series->tag, label, 0, series->refusal}, box);
 }

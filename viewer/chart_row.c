@@ -1,5 +1,8 @@
 #include "chart.h"
 
+#include "progress.h"
+#include "text.h"
+
 #include <inttypes.h>
 #include <string.h>
 
@@ -9,212 +12,254 @@ struct outside {
     int64_t lowest;
 };
 
-static void draw_value(struct chart *chart, int64_t value) {
-    draw_level(chart->picture, chart_tenths(chart, value), value);
+/* The levels that have a number beside them, the most needed first: one that would stand upon another has none. */
+static void draw_levels(struct chart *chart, const struct chart_row *row) {
+    enum { LEVELS = 4, LINE_HEIGHT = 120 };
+    int64_t values[LEVELS] = {row->top, row->bottom, 0, row->top / 2};
+    for (int i = 0; i < LEVELS; i++) {
+        int64_t tenths = row_tenths(row, values[i]);
+        bool free = true;
+        for (int other = 0; other < i; other++) {
+            int64_t apart = tenths - row_tenths(row, values[other]);
+            free = free && (apart >= LINE_HEIGHT || apart <= -LINE_HEIGHT);
+        }
+        draw_level(chart->picture, tenths);
+        if (free) {
+            draw_level_number(chart->picture, tenths, values[i]);
+        }
+    }
 }
 
-static void draw_scale(struct chart *chart) {
+static void draw_scale(struct chart *chart, const struct chart_row *row) {
     struct svg *svg = &chart->picture->svg;
-    draw_value(chart, chart->top);
-    draw_value(chart, chart->top / 2);
-    draw_value(chart, 0);
-    if (chart->bottom < 0) {
-        draw_value(chart, chart->bottom);
-    }
-    svg_format(svg, "<text class=\"small middle\" transform=\"translate(-66,%d) rotate(-90)\">signal</text>",
-               PLOT_HEIGHT / 2);
+    draw_levels(chart, row);
+    svg_markup(svg, "<text class=\"small end\" x=\"-6\" y=\"-9\">signal</text>");
     svg_format(svg, "<rect class=\"frame\" width=\"%d\" height=\"%d\"/>\n", PLOT_WIDTH, PLOT_HEIGHT);
 }
 
-static void draw_places(struct chart *chart, uint64_t first) {
-    enum { TICK = 100 };
+static void draw_tick(struct chart *chart, uint64_t first, uint64_t point) {
     struct svg *svg = &chart->picture->svg;
-    for (uint64_t i = first; i <= first + POINTS && i < chart->length; i += TICK) {
-        uint64_t x = POINT_WIDTH * (i - first);
-        svg_format(svg, "<path class=\"frame\" d=\"M%" PRIu64 " %dv4\"/>", x, PLOT_HEIGHT);
-        svg_format(svg, "<text class=\"small middle\" x=\"%" PRIu64 "\" y=\"%d\">", x, PLOT_HEIGHT + 15);
-        svg_grouped(svg, (int64_t)i);
-        svg_markup(svg, "</text>");
+    uint64_t x = column_tenths(chart, point - first) / 10;
+    bool last = x > PLOT_WIDTH - 60;
+    svg_format(svg, "<path class=\"frame\" d=\"M%" PRIu64 " %dv4\"/>", x, PLOT_HEIGHT);
+    svg_format(svg, "<text class=\"small %s\" x=\"%" PRIu64 "\" y=\"%d\">", last ? "end" : "middle", last ? x + 6 : x,
+               PLOT_HEIGHT + 15);
+    svg_grouped(svg, (int64_t)point);
+    svg_markup(svg, "</text>");
+}
+
+static void draw_places(struct chart *chart, uint64_t row) {
+    enum { TICKS = 5 };
+    uint64_t first = first_point(chart, row);
+    for (uint64_t i = 0; i <= TICKS; i++) {
+        uint64_t point = first + chart->points * i / TICKS;
+        if (point < chart->length) {
+            draw_tick(chart, first, point);
+        }
     }
-    svg_format(svg, "<text class=\"small end\" x=\"-22\" y=\"%d\">point</text>\n", PLOT_HEIGHT + 15);
+    svg_format(&chart->picture->svg, "<text class=\"small end\" x=\"-48\" y=\"%d\">point</text>\n", PLOT_HEIGHT + 15);
 }
 
 /* A value on the scale. Texts of a fixed length are copied sooner; what is too much of one, the next is written over.
  */
-static char *put_point(const struct chart *chart, char *out, uint64_t column, int64_t value) {
+static char *put_point(const struct chart *chart, const struct chart_row *row, char *out, uint64_t column,
+                       int64_t value) {
     const struct spelled *x = &chart->x[column];
-    const struct spelled *y = &chart->y[chart_tenths(chart, value)];
+    const struct spelled *y = &chart->y[row_tenths(row, value)];
     memcpy(out, x, sizeof *x);
     out += x->length;
     memcpy(out, y, sizeof *y);
     return out + y->length;
 }
 
-static void draw_point_outside(struct chart *chart, uint64_t column, int64_t value, struct outside *outside) {
+static void draw_point_outside(struct chart *chart, const struct chart_row *row, uint64_t column, int64_t value,
+                               struct outside *outside) {
     struct svg *svg = &chart->picture->svg;
     outside->highest = value > outside->highest ? value : outside->highest;
     outside->lowest = value < outside->lowest ? value : outside->lowest;
-    svg_number(svg, (int64_t)(POINT_WIDTH * column));
-    svg_markup(svg, ",");
-    svg_tenths(svg, chart_tenths(chart, value));
+    const struct spelled *x = &chart->x[column];
+    memcpy(svg_room(svg, sizeof *x), x->text, sizeof x->text);
+    svg_used(svg, x->length);
+    svg_tenths(svg, row_tenths(row, value));
     svg_markup(svg, " ");
 }
 
-static void draw_points(struct chart *chart, const int64_t *values, uint64_t count, struct outside *outside) {
-    enum { MOST = (POINTS + 2) * 2 * sizeof(struct spelled) };
+static void draw_point(struct chart *chart, const struct chart_row *row, uint64_t column, int64_t value,
+                       struct outside *outside) {
     struct svg *svg = &chart->picture->svg;
-    char *start = svg_room(svg, MOST);
-    char *out = start;
-    for (uint64_t i = 0; i < count; i++) {
-        if (values[i] <= chart->top && values[i] >= chart->bottom) {
-            out = put_point(chart, out, i, values[i]);
-        } else {
-            svg_used(svg, (size_t)(out - start));
-            draw_point_outside(chart, i, values[i], outside);
-            out = start = svg_room(svg, MOST);
-        }
-    }
-    svg_used(svg, (size_t)(out - start));
-}
-
-/* The channel's line in the row that starts at point `first`; none where the channel ends before it. */
-static void draw_trace(struct chart *chart, int channel, uint64_t first, struct outside *outside) {
-    struct svg *svg = &chart->picture->svg;
-    const struct item_numbers *numbers = &chart->run->channels[channel];
-    bool only_point = numbers->count == 1 && first == 0;
-    if (numbers->count <= first + 1 && !only_point) {
+    if (value > row->top || value < row->bottom) {
+        draw_point_outside(chart, row, column, value, outside);
         return;
     }
-    uint64_t left = numbers->count - first;
+    char *start = svg_room(svg, 2 * sizeof(struct spelled));
+    svg_used(svg, (size_t)(put_point(chart, row, start, column, value) - start));
+}
+
+/* A channel's line in a row, as it is being drawn. */
+struct line {
+    struct chart *chart;
+    const struct chart_row *row;
+    uint64_t first; /* point of the row */
+    struct outside *outside;
+    struct bounds columns[PLOT_WIDTH + 1]; /* the lowest and the highest of each pixel */
+};
+
+static void draw_values(void *context, uint64_t first, const int64_t *values, uint64_t count) {
+    struct line *line = context;
+    for (uint64_t i = 0; i < count; i++) {
+        draw_point(line->chart, line->row, first - line->first + i, values[i], line->outside);
+    }
+}
+
+static void add_to_columns(void *context, uint64_t first, const int64_t *values, uint64_t count) {
+    struct line *line = context;
+    for (uint64_t i = 0; i < count; i++) {
+        uint64_t column = PLOT_WIDTH * (first - line->first + i) / line->chart->points;
+        line->columns[column] = bounds_with(line->columns[column], &values[i], 1);
+    }
+}
+
+static void draw_columns(struct line *line) {
+    for (uint64_t i = 0; i <= PLOT_WIDTH; i++) {
+        struct bounds column = line->columns[i];
+        if (column.lowest <= column.highest) {
+            draw_point(line->chart, line->row, i, column.lowest, line->outside);
+        }
+        if (column.lowest < column.highest) {
+            draw_point(line->chart, line->row, i, column.highest, line->outside);
+        }
+    }
+}
+
+/* Each point, or the lowest and the highest of each pixel where there are more points than pixels. */
+static void draw_line(struct line *line, const struct series *series) {
+    struct chart *chart = line->chart;
+    const struct file *file = chart->run->file;
+    uint64_t behind = line->first + chart->points + 1;
+    if (chart->points <= PLOT_WIDTH) {
+        series_visit(file, series, line->first, behind, draw_values, line);
+        return;
+    }
+    for (uint64_t i = 0; i <= PLOT_WIDTH; i++) {
+        line->columns[i] = bounds_of_none();
+    }
+    series_visit(file, series, line->first, behind, add_to_columns, line);
+    draw_columns(line);
+}
+
+/* The channel's line in a row; none where the channel ends before it. A point by itself stands twice. */
+static void draw_trace(struct line *line, int channel) {
+    struct chart *chart = line->chart;
+    struct svg *svg = &chart->picture->svg;
+    const struct series *series = &chart->run->channels[channel];
+    bool only_point = series->count == 1 && line->first == 0;
+    if (series->count <= line->first + 1 && !only_point) {
+        return;
+    }
     svg_format(svg, "<polyline class=\"trace\" data-part=\"%s\" stroke=\"%s\" stroke-dasharray=\"%s\" points=\"",
-               numbers->tag, channel_colour(chart->run, channel), channel_dashes(chart->run, channel));
-    draw_points(chart, numbers->values + first, left < POINTS + 1 ? left : POINTS + 1, outside);
+               series->tag, channel_colour(chart->run, channel), channel_dashes(chart->run, channel));
+    draw_line(line, series);
     if (only_point) {
-        draw_points(chart, numbers->values, 1, outside);
+        draw_line(line, series);
     }
     svg_markup(svg, "\"/>\n");
 }
 
-static void draw_outside(struct chart *chart, const char *sign, int64_t value, int y) {
+static void draw_outside(struct chart *chart, const char *sign, int64_t value, int x) {
     struct svg *svg = &chart->picture->svg;
-    svg_format(svg, "<text class=\"off-scale small end\" x=\"-6\" y=\"%d\">%s ", y, sign);
+    svg_format(svg, "<text class=\"off-scale small middle\" x=\"%d\" y=\"%d\">%s ", x, PLOT_HEIGHT + 15, sign);
     svg_grouped(svg, value);
     svg_markup(svg, "</text>\n");
 }
 
-static void draw_traces(struct chart *chart, uint64_t first) {
-    struct outside outside = {chart->top, chart->bottom};
+/* What leaves the scale is told between the numbers of the points. */
+static void draw_traces(struct chart *chart, uint64_t row) {
+    enum { HIGHEST_AT = PLOT_WIDTH * 9 / 10, LOWEST_AT = PLOT_WIDTH * 7 / 10 };
+    const struct chart_row *drawn = &chart->rows[row];
+    struct outside outside = {drawn->top, drawn->bottom};
+    struct line line = {.chart = chart, .row = drawn, .first = first_point(chart, row), .outside = &outside};
     svg_markup(&chart->picture->svg, "<g clip-path=\"url(#plot)\">\n");
-    for (int channel = 0; channel < CHANNELS; channel++) {
-        draw_trace(chart, channel, first, &outside);
+    for (int channel = 0; channel < chart->run->channel_count; channel++) {
+        draw_trace(&line, channel);
     }
     svg_markup(&chart->picture->svg, "</g>\n");
-    if (outside.highest > chart->top) {
-        draw_outside(chart, "\xE2\x96\xB2", outside.highest, 19);
+    if (outside.highest > drawn->top) {
+        draw_outside(chart, "\xE2\x96\xB2", outside.highest, HIGHEST_AT);
     }
-    if (outside.lowest < chart->bottom) {
-        draw_outside(chart, "\xE2\x96\xBC", outside.lowest, PLOT_HEIGHT - 10);
+    if (outside.lowest < drawn->bottom) {
+        draw_outside(chart, "\xE2\x96\xBC", outside.lowest, LOWEST_AT);
     }
-}
-
-static void draw_letter(struct chart *chart, uint64_t base, uint64_t x) {
-    struct svg *svg = &chart->picture->svg;
-    int64_t value = chart->run->letters.values[base - 1];
-    uint8_t letter = value >= 0 && value <= UINT8_MAX ? (uint8_t)value : 0;
-    svg_markup(svg, "<text class=\"letter\" data-base=\"");
-    svg_number(svg, (int64_t)base);
-    svg_markup(svg, "\" data-at=\"");
-    svg_number(svg, chart->run->places.values[base - 1]);
-    svg_markup(svg, "\" x=\"");
-    svg_number(svg, (int64_t)x);
-    svg_markup(svg, "\" y=\"-4\" fill=\"");
-    svg_markup(svg, letter_colour((char)letter));
-    svg_markup(svg, "\">");
-    svg_bytes(svg, &letter, 1);
-    svg_markup(svg, "</text>");
-}
-
-static void draw_base_number(struct chart *chart, uint64_t base, uint64_t x) {
-    if (base % 10 == 0 || base == 1) {
-        svg_format(&chart->picture->svg, "<text class=\"small middle\" x=\"%" PRIu64 "\" y=\"-19\">%" PRIu64 "</text>",
-                   x, base);
-    }
-}
-
-static void draw_quality(struct chart *chart, uint64_t base, uint64_t x) {
-    struct svg *svg = &chart->picture->svg;
-    int64_t quality = chart->run->qualities.values[base - 1];
-    if (quality < 0) {
-        return;
-    }
-    int64_t tenths = 10 * QUALITY_HEIGHT * quality / chart->top_quality;
-    svg_markup(svg, "<rect class=\"quality\" data-base=\"");
-    svg_number(svg, (int64_t)base);
-    svg_markup(svg, "\" data-value=\"");
-    svg_number(svg, quality);
-    svg_markup(svg, "\" x=\"");
-    svg_number(svg, (int64_t)x - 4);
-    svg_markup(svg, "\" y=\"");
-    svg_tenths(svg, -10 * LETTERS_HEIGHT - tenths);
-    svg_markup(svg, "\" width=\"8\" height=\"");
-    svg_tenths(svg, tenths);
-    svg_markup(svg, "\"/>");
-}
-
-static void draw_letters(struct chart *chart, uint64_t row) {
-    const struct run *run = chart->run;
-    for (uint64_t base = chart->first_letter[row]; base != 0; base = chart->next_letter[base - 1]) {
-        uint64_t x = POINT_WIDTH * ((uint64_t)run->places.values[base - 1] - row * POINTS);
-        draw_letter(chart, base, x);
-        draw_base_number(chart, base, x);
-        if (run->qualified) {
-            draw_quality(chart, base, x);
-        }
-        svg_markup(&chart->picture->svg, "\n");
-    }
-}
-
-static void draw_quality_scale(struct chart *chart) {
-    struct svg *svg = &chart->picture->svg;
-    int zero = -LETTERS_HEIGHT;
-    svg_format(svg, "<path class=\"grid\" d=\"M0 %dh%dM0 %dh%d\"/>", zero, PLOT_WIDTH, zero - QUALITY_HEIGHT,
-               PLOT_WIDTH);
-    svg_format(svg, "<text class=\"small end\" x=\"-6\" y=\"%d\">%" PRId64 "</text>", zero - QUALITY_HEIGHT + 8,
-               chart->top_quality);
-    svg_format(svg, "<text class=\"small end\" x=\"-6\" y=\"%d\">quality</text>", zero - QUALITY_HEIGHT / 2 + 6);
-    svg_format(svg, "<text class=\"small end\" x=\"-6\" y=\"%d\">0</text>\n", zero + 4);
 }
 
 static void draw_plot(struct chart *chart, uint64_t row) {
-    draw_scale(chart);
-    draw_places(chart, row * POINTS);
-    draw_traces(chart, row * POINTS);
+    draw_scale(chart, &chart->rows[row]);
+    draw_places(chart, row);
+    draw_traces(chart, row);
     draw_file_refused(chart->picture, PLOT_WIDTH - 8, 16);
-    if (chart->lettered && chart->run->qualified) {
-        draw_quality_scale(chart);
-    }
     if (chart->lettered) {
         draw_letters(chart, row);
     }
 }
 
-static void draw_refused_lanes(struct chart *chart, int y) {
-    for (int i = 0; i < CHANNELS; i++) {
+/* The words go where there is room: before the box, behind it, or in it. */
+static void draw_ended_words(struct chart *chart, int channel, struct box box) {
+    enum { ROOM = 340, GAP = 10 };
+    const struct series *series = &chart->run->channels[channel];
+    char base = chart->run->bases[channel];
+    char words[96];
+    int length = snprintf(words, sizeof words, base != 0 ? "%s, base %c" : "%s", series->tag, base);
+    snprintf(words + length, sizeof words - (size_t)length, ": ends after point %s", with_commas(series->count - 1).text);
+    int64_t x = box.x + GAP;
+    if (box.x >= ROOM + GAP) {
+        x = box.x - ROOM;
+    } else if (box.x + box.width <= PLOT_WIDTH - ROOM - GAP) {
+        x = box.x + box.width + GAP;
+    }
+    draw_words(chart->picture, "ended-words", words, x, box.y + box.height / 2 + 5, ROOM - GAP);
+}
+
+/* From the channel's last point to the row's. */
+static void draw_ended(struct chart *chart, int channel, uint64_t row, int64_t y) {
+    struct svg *svg = &chart->picture->svg;
+    const struct series *series = &chart->run->channels[channel];
+    uint64_t first = first_point(chart, row);
+    uint64_t from = series->count > first ? column_tenths(chart, series->count - 1 - first) : 0;
+    uint64_t to = column_tenths(chart, last_point(chart, row) - first);
+    svg_format(svg, "<rect class=\"ended\" data-part=\"%s\" data-count=\"%" PRIu64 "\" x=\"", series->tag,
+               series->count);
+    svg_tenths(svg, (int64_t)from);
+    svg_format(svg, "\" y=\"%" PRId64 "\" width=\"", y);
+    svg_tenths(svg, (int64_t)(to - from));
+    svg_format(svg, "\" height=\"%d\" fill=\"url(#hatch)\" stroke=\"#111\"/>", lane_height(chart) - 4);
+    struct box box = {(int64_t)from / 10, y, (int64_t)(to - from) / 10, lane_height(chart) - 4};
+    draw_ended_words(chart, channel, box);
+}
+
+void draw_lanes(struct chart *chart, uint64_t row) {
+    int64_t y = chart->length > 0 ? PLOT_HEIGHT + AXIS_HEIGHT : 0;
+    for (int i = 0; i < chart->run->channel_count; i++) {
         if (chart->run->channels[i].refusal != 0) {
-            draw_refused_channel(chart, i, (struct box){0, y, PLOT_WIDTH, lane_height(chart) - 2});
+            draw_refused_channel(chart, i, (struct box){0, y, PLOT_WIDTH, lane_height(chart) - 4});
+            y += lane_height(chart);
+        } else if (has_ended(chart, i, row)) {
+            draw_ended(chart, i, row, y);
             y += lane_height(chart);
         }
     }
 }
 
-void draw_row(struct chart *chart, uint64_t row, int64_t y) {
+void draw_row(void *subject, uint64_t row, int64_t y) {
+    struct chart *chart = subject;
     struct svg *svg = &chart->picture->svg;
-    svg_format(svg, "<g class=\"row\" data-first=\"%" PRIu64 "\" data-top=\"%" PRId64 "\" data-bottom=\"%" PRId64 "\" ",
-               row * POINTS, chart->top, chart->bottom);
-    svg_format(svg, "data-height=\"%d\" transform=\"translate(%d,%" PRId64 ")\">\n", PLOT_HEIGHT, PLOT_LEFT, y);
+    const struct chart_row *drawn = &chart->rows[row];
+    svg_format(svg, "<g class=\"row\" data-first=\"%" PRIu64 "\" data-points=\"%" PRIu64 "\" data-top=\"%" PRId64 "\" ",
+               first_point(chart, row), chart->points, drawn->top);
+    svg_format(svg, "data-bottom=\"%" PRId64 "\" data-height=\"%d\" transform=\"translate(%d,%" PRId64 ")\">\n",
+               drawn->bottom, PLOT_HEIGHT, PLOT_LEFT, y + row_height_above(chart));
     if (chart->length > 0) {
         draw_plot(chart, row);
     }
-    draw_refused_lanes(chart, chart->length > 0 ? PLOT_HEIGHT + AXIS_HEIGHT : 0);
+    draw_lanes(chart, row);
     svg_markup(svg, "</g>\n");
+    progress_show(2 * chart->row_count + row, 3 * chart->row_count);
 }

@@ -6,13 +6,16 @@
 
 struct draw_options {
     const char *output;
-    bool raw;      /* ABIF: the raw channels */
-    uint64_t read; /* SFF: which read, from one */
+    bool raw;          /* ABIF: the raw channels */
+    uint64_t read;     /* SFF: which read, from one */
+    uint64_t points;   /* ABIF: how many in a row */
+    bool letter_paper; /* pages of Letter, and not of A4 */
+    bool landscape;
 };
 
 /* Each draws the whole picture and tells whether all that it is made of was answered. */
-bool draw_abif(struct picture *picture, bool raw);
-bool draw_sff(struct picture *picture, uint64_t k);
+bool draw_abif(struct picture *picture, const struct draw_options *options);
+bool draw_sff(struct picture *picture, const struct draw_options *options);
 bool draw_gtc(struct picture *picture);
 
 /* Draws the file into the output, and prints the file's line. */

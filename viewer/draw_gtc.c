@@ -2,7 +2,10 @@
 
 #include "memory.h"
 #include "numbers.h"
+#include "progress.h"
 #include "scale.h"
+#include "sheet.h"
+#include "text.h"
 #include "words.h"
 
 #include <inttypes.h>
@@ -13,19 +16,16 @@ enum {
     GENOTYPES = 46,     /* the classes are the genotypes by their codes */
     UNREAD = GENOTYPES, /* the class of SNPs whose genotypes cannot be read */
     CLASSES,
-    PLOT_SIZE = 760,
+    PLOT_SIZE = 600,
+    PIXELS = (PLOT_SIZE + 1) * (PLOT_SIZE + 1),
+    PLOT_GAP = 12,
     LEGEND_LEFT = PLOT_LEFT + PLOT_SIZE + 40
 };
 
 /* The parts in the order in which a SNP's record is looked up. */
 enum { GENOTYPES_PART, CALLS_PART, SCORES_PART, X_PART, Y_PART, PARTS };
 
-struct snp {
-    uint16_t x, y;
-    uint8_t class;
-};
-
-/* A GTC file's picture: the SNPs that are there, and how many of each class. */
+/* A GTC file's picture: how many SNPs of each class there are, and where. */
 struct scatter {
     struct picture *picture;
     jt_item parts[PARTS];
@@ -33,54 +33,63 @@ struct scatter {
     uint64_t forbidden; /* the records that are refused by themselves */
     char label[64];     /* what of the SNPs is refused */
     uint64_t count;
-    struct snp *snps;
     uint64_t in_class[CLASSES];
     uint8_t ploidy[CLASSES];
     uint8_t b_alleles[CLASSES];
-    int64_t top;
-    uint8_t *taken; /* for each pixel, whether the class at hand has a mark there */
+    int64_t highest;
+    int64_t top;     /* of both scales, once the highest intensity is known */
+    uint64_t *taken; /* for each pixel, a bit for each class that has a mark there */
 };
 
 static const uint16_t IDS[PARTS] = {1002, 1003, 1004, 1000, 1001};
 
-static void add_snp(struct scatter *scatter, uint64_t class, uint64_t x, uint64_t y) {
-    struct snp snp = {(uint16_t)x, (uint16_t)y, (uint8_t) class};
-    scatter->snps[scatter->count++] = snp;
+/* What is done with a SNP: it is counted, or marked in its place. */
+typedef void see_snp(struct scatter *scatter, uint64_t class, uint64_t x, uint64_t y);
+
+static void count_snp(struct scatter *scatter, uint64_t class, uint64_t x, uint64_t y) {
+    int64_t larger = (int64_t)(x > y ? x : y);
+    scatter->highest = larger > scatter->highest ? larger : scatter->highest;
     scatter->in_class[class]++;
+    scatter->count++;
 }
 
-/* A record that is refused by itself is counted. */
-static void add_record(struct scatter *scatter, const jt_snp *record) {
-    if (record->refusal != 0) {
-        scatter->forbidden++;
-        return;
+static void mark_snp(struct scatter *scatter, uint64_t class, uint64_t x, uint64_t y) {
+    int64_t right = (int64_t)x * PLOT_SIZE / scatter->top;
+    int64_t down = PLOT_SIZE - (int64_t)y * PLOT_SIZE / scatter->top;
+    scatter->taken[down * (PLOT_SIZE + 1) + right] |= (uint64_t)1 << class;
+}
+
+/* A record that is refused by itself is not seen. */
+static void see_record(struct scatter *scatter, const jt_snp *record, see_snp *see) {
+    if (record->refusal == 0) {
+        scatter->ploidy[record->code] = (uint8_t)record->ploidy;
+        scatter->b_alleles[record->code] = (uint8_t)record->b_alleles;
+        see(scatter, record->code, record->x, record->y);
     }
-    scatter->ploidy[record->code] = (uint8_t)record->ploidy;
-    scatter->b_alleles[record->code] = (uint8_t)record->b_alleles;
-    add_snp(scatter, record->code, record->x, record->y);
 }
 
-/* All records, some at a time until none is left; answers with the refusal of the first call. */
-static uint64_t read_records(struct scatter *scatter) {
+/* All records, some at a time until none is left; answers with how many there are, or the refusal of the first call. */
+static uint64_t see_records(struct scatter *scatter, see_snp *see, uint64_t *records) {
     enum { AT_ONCE = 512 };
     const struct file *file = scatter->picture->file;
     uint64_t numbers[AT_ONCE * JT_SNP_NUMBERS];
-    uint64_t first = 1;
     jt_listed listed;
+    *records = 0;
     do {
-        listed = jt_gtc_snps(file->bytes, file->length, first, numbers, AT_ONCE * JT_SNP_NUMBERS);
+        listed = jt_gtc_snps(file->bytes, file->length, *records + 1, numbers, AT_ONCE * JT_SNP_NUMBERS);
         for (uint64_t i = 0; i < listed.count; i++) {
             jt_snp record;
             memcpy(&record, numbers + JT_SNP_NUMBERS * i, sizeof record);
-            add_record(scatter, &record);
+            see_record(scatter, &record, see);
         }
-        first += listed.count;
+        *records += listed.count;
+        progress_show(*records, scatter->parts[X_PART].count);
     } while (listed.refusal == 0);
-    return first == 1 ? listed.refusal : 0;
+    return *records == 0 ? listed.refusal : 0;
 }
 
 /* Without records, the intensities alone, if both are there. */
-static void read_intensities(struct scatter *scatter) {
+static void see_intensities(struct scatter *scatter, see_snp *see) {
     const struct file *file = scatter->picture->file;
     const jt_item *x = &scatter->parts[X_PART];
     const jt_item *y = &scatter->parts[Y_PART];
@@ -88,29 +97,29 @@ static void read_intensities(struct scatter *scatter) {
         return;
     }
     for (uint64_t i = 0; i < x->count && i < y->count; i++) {
-        add_snp(scatter, UNREAD, little_endian_16(file, x->start + 2 * i), little_endian_16(file, y->start + 2 * i));
+        see(scatter, UNREAD, little_endian_16(file, x->start + 2 * i), little_endian_16(file, y->start + 2 * i));
+    }
+}
+
+static void see_snps(struct scatter *scatter, see_snp *see) {
+    uint64_t records;
+    scatter->refusal = see_records(scatter, see, &records);
+    if (scatter->refusal != 0 && scatter->refusal != NO_SUCH_ELEMENT) {
+        see_intensities(scatter, see);
+    } else {
+        scatter->forbidden = records - scatter->count;
     }
 }
 
 static void read_snps(struct scatter *scatter) {
+    enum { LOWEST_TOP = 100 };
     const struct file *file = scatter->picture->file;
     for (int i = 0; i < PARTS; i++) {
         scatter->parts[i] = jt_gtc_lookup(file->bytes, file->length, IDS[i]);
     }
-    scatter->snps = take(scatter->parts[X_PART].count, sizeof *scatter->snps);
-    scatter->refusal = read_records(scatter);
-    if (scatter->refusal != 0 && scatter->refusal != NO_SUCH_ELEMENT) {
-        read_intensities(scatter);
-    }
-}
-
-static void choose_scale(struct scatter *scatter) {
-    int64_t highest = 100;
-    for (uint64_t i = 0; i < scatter->count; i++) {
-        int64_t larger = scatter->snps[i].x > scatter->snps[i].y ? scatter->snps[i].x : scatter->snps[i].y;
-        highest = larger > highest ? larger : highest;
-    }
-    scatter->top = round_above(highest);
+    see_snps(scatter, count_snp);
+    scatter->top = round_above(scatter->highest > LOWEST_TOP ? scatter->highest : LOWEST_TOP);
+    see_snps(scatter, mark_snp);
 }
 
 static void class_name(const struct scatter *scatter, int class, char name[GENOTYPE_LENGTH]) {
@@ -123,11 +132,11 @@ static void class_name(const struct scatter *scatter, int class, char name[GENOT
 
 /* From dark for all A to light for all B, so that they can be told apart in grey too. */
 static const char *genotype_colour(const struct scatter *scatter, int class) {
-    static const char *const shades[] = {"#00224e", "#22409a", "#3d5a8a", "#5f6f80", "#7c7b78",
-                                         "#9a8b6a", "#b99c55", "#d9a441", "#e8b92f"};
+    static const char *const shades[] = {"#00103a", "#0c1f5c", "#1f2f6b", "#3a4066", "#4f505e",
+                                         "#5f5a4f", "#6c6138", "#7a6820", "#876d00"};
     int ploidy = scatter->ploidy[class];
     if (ploidy == 0) {
-        return class == UNREAD ? "#555" : "#c8553d";
+        return class == UNREAD ? "#555" : "#b03018";
     }
     return shades[8 * scatter->b_alleles[class] / ploidy];
 }
@@ -160,18 +169,12 @@ static void draw_paint(struct scatter *scatter, int class) {
 static void draw_marks(struct scatter *scatter, int class) {
     struct svg *svg = &scatter->picture->svg;
     const char *mark = genotype_mark(scatter, class);
-    memset(scatter->taken, 0, (size_t)(PLOT_SIZE + 1) * (PLOT_SIZE + 1));
-    for (uint64_t i = 0; i < scatter->count; i++) {
-        const struct snp *snp = &scatter->snps[i];
-        int64_t x = snp->x * (int64_t)PLOT_SIZE / scatter->top;
-        int64_t y = PLOT_SIZE - snp->y * (int64_t)PLOT_SIZE / scatter->top;
-        uint8_t *taken = &scatter->taken[y * (PLOT_SIZE + 1) + x];
-        if (snp->class == class && *taken == 0) {
-            *taken = 1;
+    for (int64_t i = 0; i < PIXELS; i++) {
+        if (scatter->taken[i] >> class & 1) {
             svg_markup(svg, "M");
-            svg_number(svg, x);
+            svg_number(svg, i % (PLOT_SIZE + 1));
             svg_markup(svg, " ");
-            svg_number(svg, y);
+            svg_number(svg, i / (PLOT_SIZE + 1));
             svg_markup(svg, mark);
         }
     }
@@ -218,24 +221,6 @@ static struct refused refused_snps(struct scatter *scatter) {
     return (struct refused){"SNPs", scatter->label, scatter->forbidden, FORBIDDEN_VALUE};
 }
 
-static void draw_plot(struct scatter *scatter, int y) {
-    struct svg *svg = &scatter->picture->svg;
-    if (scatter->count == 0) {
-        struct box box = {PLOT_LEFT, y, PLOT_SIZE, PLOT_SIZE};
-        draw_refused(scatter->picture, refused_snps(scatter), box);
-        return;
-    }
-    svg_format(svg, "<g transform=\"translate(%d,%d)\">\n", PLOT_LEFT, y);
-    draw_axes(scatter);
-    for (int class = 0; class < CLASSES; class ++) {
-        if (scatter->in_class[class] > 0) {
-            draw_class(scatter, class);
-        }
-    }
-    draw_file_refused(scatter->picture, PLOT_SIZE - 8, 20);
-    svg_markup(svg, "</g>\n");
-}
-
 /* Whether two classes have the same mark in the same colour: as many B among their letters, for their number. */
 static bool look_the_same(const struct scatter *scatter, int left, int right) {
     return strcmp(genotype_mark(scatter, left), genotype_mark(scatter, right)) == 0 &&
@@ -277,15 +262,15 @@ static bool is_first_of_its_look(const struct scatter *scatter, int class) {
     return scatter->in_class[class] > 0;
 }
 
-static void draw_legend(struct scatter *scatter, int y) {
+static void draw_legend(struct scatter *scatter, int64_t y) {
     struct svg *svg = &scatter->picture->svg;
     for (int class = 0; class < CLASSES; class ++) {
         if (is_first_of_its_look(scatter, class)) {
             svg_markup(svg, "<path ");
             draw_paint(scatter, class);
-            svg_format(svg, " transform=\"translate(%d,%d) scale(2)\" d=\"M0 0%s\"/>", LEGEND_LEFT, y + 10,
+            svg_format(svg, " transform=\"translate(%d,%" PRId64 ") scale(2)\" d=\"M0 0%s\"/>", LEGEND_LEFT, y + 10,
                        genotype_mark(scatter, class));
-            svg_format(svg, "<text x=\"%d\" y=\"%d\">", LEGEND_LEFT + 20, y + 15);
+            svg_format(svg, "<text x=\"%d\" y=\"%" PRId64 "\">", LEGEND_LEFT + 20, y + 15);
             draw_look(scatter, class);
             svg_markup(svg, " SNPs</text>\n");
             y += PART_HEIGHT;
@@ -293,7 +278,7 @@ static void draw_legend(struct scatter *scatter, int y) {
     }
 }
 
-static void draw_part(struct scatter *scatter, int part, struct box box) {
+static void draw_part(struct scatter *scatter, uint64_t part, struct box box) {
     struct svg *svg = &scatter->picture->svg;
     const jt_item *item = &scatter->parts[part];
     const char *name = gtc_row_of(IDS[part])->name;
@@ -305,44 +290,60 @@ static void draw_part(struct scatter *scatter, int part, struct box box) {
         draw_refused(scatter->picture, (struct refused){id, label, 0, item->refusal}, box);
         return;
     }
-    svg_format(svg, "<text x=\"%d\" y=\"%d\"><tspan font-weight=\"bold\">%s</tspan> %s: ", box.x, box.y + 16, id, name);
+    svg_format(svg, "<text x=\"%" PRId64 "\" y=\"%" PRId64 "\"><tspan font-weight=\"bold\">%s</tspan> %s: ", box.x,
+               box.y + 16, id, name);
     svg_grouped(svg, (int64_t)item->count);
     svg_markup(svg, is_whole(&scatter->picture->judgement) ? "</text>\n" : ", file refused</text>\n");
 }
 
 /* The five arrays, and behind them the records that are refused. */
-static void draw_parts(struct scatter *scatter, int y) {
+static void draw_parts_line(void *subject, uint64_t index, int64_t y) {
+    struct scatter *scatter = subject;
     struct box box = {PICTURE_MARGIN, y, PICTURE_WIDTH - 2 * PICTURE_MARGIN, PART_HEIGHT - 4};
-    for (int part = 0; part < PARTS; part++) {
-        draw_part(scatter, part, box);
-        box.y += PART_HEIGHT;
-    }
-    if (scatter->forbidden > 0 || scatter->refusal != 0) {
+    if (index < PARTS) {
+        draw_part(scatter, index, box);
+    } else {
         draw_refused(scatter->picture, refused_snps(scatter), box);
     }
 }
 
-static void draw_scatter(struct scatter *scatter) {
-    enum { PARTS_HEIGHT = (PARTS + 1) * PART_HEIGHT + 20, AXIS_HEIGHT = 50 };
-    struct picture *picture = scatter->picture;
-    int y = picture_head_height(picture) + 6;
-    picture_begin(picture, y + PARTS_HEIGHT + PLOT_SIZE + AXIS_HEIGHT);
-    draw_parts(scatter, y);
-    draw_plot(scatter, y + PARTS_HEIGHT);
-    draw_legend(scatter, y + PARTS_HEIGHT);
-    picture_end(picture);
+static void draw_plot(void *subject, uint64_t index, int64_t top) {
+    struct scatter *scatter = subject;
+    struct svg *svg = &scatter->picture->svg;
+    int64_t y = top + PLOT_GAP;
+    (void)index;
+    if (scatter->count == 0) {
+        struct box box = {PLOT_LEFT, y, PLOT_SIZE, PLOT_SIZE};
+        draw_refused(scatter->picture, refused_snps(scatter), box);
+        return;
+    }
+    svg_format(svg, "<g transform=\"translate(%d,%" PRId64 ")\">\n", PLOT_LEFT, y);
+    draw_axes(scatter);
+    for (int class = 0; class < CLASSES; class ++) {
+        if (scatter->in_class[class] > 0) {
+            draw_class(scatter, class);
+        }
+    }
+    draw_file_refused(scatter->picture, PLOT_SIZE - 8, 20);
+    svg_markup(svg, "</g>\n");
+    draw_legend(scatter, y);
 }
 
 bool draw_gtc(struct picture *picture) {
+    enum { AXIS_HEIGHT = 44 };
     struct scatter *scatter = take(1, sizeof *scatter);
+    struct sheet *sheet = take(1, sizeof *sheet);
     scatter->picture = picture;
-    scatter->taken = take((size_t)(PLOT_SIZE + 1) * (PLOT_SIZE + 1), 1);
+    scatter->taken = take(PIXELS, sizeof *scatter->taken);
     read_snps(scatter);
-    choose_scale(scatter);
-    draw_scatter(scatter);
     bool answered = scatter->refusal == 0 && scatter->forbidden == 0;
-    free(scatter->snps);
+    for (uint64_t i = 0; i < (answered ? PARTS : PARTS + 1); i++) {
+        sheet_add(sheet, PART_HEIGHT, draw_parts_line, i);
+    }
+    sheet_add(sheet, PLOT_GAP + PLOT_SIZE + AXIS_HEIGHT, draw_plot, 0);
+    sheet_draw(sheet, picture, scatter);
     free(scatter->taken);
     free(scatter);
+    free(sheet);
     return answered;
 }

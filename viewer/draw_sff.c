@@ -2,7 +2,9 @@
 
 #include "memory.h"
 #include "numbers.h"
-#include "scale.h"
+#include "progress.h"
+#include "sheet.h"
+#include "text.h"
 
 #include <inttypes.h>
 #include <stdlib.h>
@@ -12,10 +14,13 @@ enum {
     FLOW_WIDTH = PLOT_WIDTH / FLOWS,
     PLOT_HEIGHT = 150,
     FLOW_LETTER_HEIGHT = 34,
-    LETTER_HEIGHT = 15,
+    LETTER_HEIGHT = 16,
+    MOST_LETTERS = 20, /* under one flow */
+    MORE_HEIGHT = 96,  /* for the number of those that are not drawn, which stands upright */
     ROW_GAP = 26,
     HUNDREDTHS = 100,
-    LOWEST_TOP = 200
+    LOWEST_TOP = 200,
+    LEGEND_HEIGHT = 60
 };
 
 /* A read's picture. Flows and bases count from one. */
@@ -29,6 +34,8 @@ struct flowgram {
     uint64_t kept_from; /* the flows of the first and the last base that are kept */
     uint64_t kept_to;
     uint64_t most_letters; /* of one flow */
+    uint64_t next_base;    /* the first that stands in no row yet, and its flow */
+    uint64_t next_flow;
 };
 
 static uint16_t flow_value(const struct flowgram *flowgram, uint64_t flow) {
@@ -39,8 +46,10 @@ static uint8_t flow_letter(const struct flowgram *flowgram, uint64_t flow) {
     return byte_at(flowgram->picture->file, flowgram->header.flow_letters_start + flow - 1);
 }
 
+/* 0 behind the last base. */
 static uint8_t step_of(const struct flowgram *flowgram, uint64_t base) {
-    return byte_at(flowgram->picture->file, flowgram->read.steps_start + base - 1);
+    bool there = base <= flowgram->read.bases;
+    return there ? byte_at(flowgram->picture->file, flowgram->read.steps_start + base - 1) : 0;
 }
 
 static uint8_t letter_of(const struct flowgram *flowgram, uint64_t base) {
@@ -83,6 +92,15 @@ static void find_clips(struct flowgram *flowgram) {
     }
 }
 
+static int64_t letters_height(const struct flowgram *flowgram) {
+    bool all = flowgram->most_letters <= MOST_LETTERS;
+    return all ? LETTER_HEIGHT * (int64_t)flowgram->most_letters : LETTER_HEIGHT * MOST_LETTERS + MORE_HEIGHT;
+}
+
+static int64_t row_height(const struct flowgram *flowgram) {
+    return PLOT_HEIGHT + FLOW_LETTER_HEIGHT + letters_height(flowgram) + ROW_GAP;
+}
+
 /* Shades the flows from `from` to `to` as far as they stand in the row. */
 static void draw_shade(struct flowgram *flowgram, uint64_t row, uint64_t from, uint64_t to) {
     uint64_t first = row * FLOWS + 1;
@@ -92,9 +110,8 @@ static void draw_shade(struct flowgram *flowgram, uint64_t row, uint64_t from, u
     if (from <= to) {
         svg_format(&flowgram->picture->svg,
                    "<rect class=\"clipped\" data-from=\"%" PRIu64 "\" data-to=\"%" PRIu64 "\" x=\"%" PRIu64
-                   "\" width=\"%" PRIu64 "\" height=\"%" PRIu64 "\"/>\n",
-                   from, to, FLOW_WIDTH * (from - first), FLOW_WIDTH * (to - from + 1),
-                   PLOT_HEIGHT + FLOW_LETTER_HEIGHT + LETTER_HEIGHT * flowgram->most_letters);
+                   "\" width=\"%" PRIu64 "\" height=\"%" PRId64 "\"/>\n",
+                   from, to, FLOW_WIDTH * (from - first), FLOW_WIDTH * (to - from + 1), row_height(flowgram) - ROW_GAP);
     }
 }
 
@@ -107,16 +124,43 @@ static int64_t tenths_of(const struct flowgram *flowgram, int64_t value) {
     return 10 * PLOT_HEIGHT * value / flowgram->top;
 }
 
+/* The number of bases from one level to the next, so that their numbers have room below each other. */
+static int64_t level_step(const struct flowgram *flowgram) {
+    enum { MOST_LEVELS = 9 };
+    static const int64_t factors[] = {2, 5, 10};
+    int64_t step = 1;
+    for (int64_t power = 1; flowgram->top / HUNDREDTHS / step > MOST_LEVELS; power *= 10) {
+        for (size_t i = 0; i < 3 && flowgram->top / HUNDREDTHS / step > MOST_LEVELS; i++) {
+            step = power * factors[i];
+        }
+    }
+    return step;
+}
+
 static void draw_scale(struct flowgram *flowgram) {
     struct svg *svg = &flowgram->picture->svg;
-    int64_t step = round_above(flowgram->top / 1000 * HUNDREDTHS);
-    for (int64_t value = 0; value <= flowgram->top; value += step > HUNDREDTHS ? step : HUNDREDTHS) {
-        draw_level(flowgram->picture, 10 * PLOT_HEIGHT - tenths_of(flowgram, value), value / HUNDREDTHS);
+    int64_t step = level_step(flowgram);
+    for (int64_t bases = 0; bases * HUNDREDTHS <= flowgram->top; bases += step) {
+        int64_t tenths = 10 * PLOT_HEIGHT - tenths_of(flowgram, bases * HUNDREDTHS);
+        draw_level(flowgram->picture, tenths);
+        draw_level_number(flowgram->picture, tenths, bases);
     }
-    svg_format(svg, "<text class=\"small end\" x=\"-26\" y=\"%d\">bases</text>", PLOT_HEIGHT / 2);
-    svg_format(svg, "<text class=\"small end\" x=\"-6\" y=\"%d\">flow</text>", PLOT_HEIGHT + 14);
+    svg_format(svg, "<text class=\"small end\" x=\"-34\" y=\"%d\">bases</text>", PLOT_HEIGHT / 2);
+    svg_format(svg, "<text class=\"small end\" x=\"-6\" y=\"%d\">flow</text>", PLOT_HEIGHT + 16);
     svg_format(svg, "<text class=\"small end\" x=\"-6\" y=\"%d\">called</text>\n",
-               PLOT_HEIGHT + FLOW_LETTER_HEIGHT + 11);
+               PLOT_HEIGHT + FLOW_LETTER_HEIGHT + 12);
+}
+
+static void draw_flow_letter(struct flowgram *flowgram, uint64_t flow, uint64_t x) {
+    struct svg *svg = &flowgram->picture->svg;
+    svg_format(svg, "<text class=\"small middle\" x=\"%" PRIu64 "\" y=\"%d\">", x, PLOT_HEIGHT + 14);
+    svg_letter(svg, flow_letter(flowgram, flow));
+    svg_markup(svg, "</text>");
+    if (flow % 10 == 0 || flow == 1) {
+        svg_format(svg, "<text class=\"small middle\" x=\"%" PRIu64 "\" y=\"%d\">%" PRIu64 "</text>", x,
+                   PLOT_HEIGHT + 28, flow);
+    }
+    svg_markup(svg, "\n");
 }
 
 static void draw_flow(struct flowgram *flowgram, uint64_t flow, uint64_t x) {
@@ -125,21 +169,14 @@ static void draw_flow(struct flowgram *flowgram, uint64_t flow, uint64_t x) {
     uint8_t letter = flow_letter(flowgram, flow);
     int64_t height = tenths_of(flowgram, value);
     svg_format(svg, "<rect class=\"flow\" data-flow=\"%" PRIu64 "\" data-value=\"%u\" data-letter=\"", flow, value);
-    svg_bytes(svg, &letter, 1);
+    svg_letter(svg, letter);
     svg_format(svg, "\" x=\"%" PRIu64 "\" width=\"%d\" fill=\"%s\" y=\"", x + 1, FLOW_WIDTH - 2,
                letter_colour((char)letter));
     svg_tenths(svg, 10 * PLOT_HEIGHT - height);
     svg_markup(svg, "\" height=\"");
     svg_tenths(svg, height);
-    svg_format(svg, "\"/><text class=\"small middle\" x=\"%" PRIu64 "\" y=\"%d\">", x + FLOW_WIDTH / 2,
-               PLOT_HEIGHT + 14);
-    svg_bytes(svg, &letter, 1);
-    svg_markup(svg, "</text>");
-    if (flow % 10 == 0 || flow == 1) {
-        svg_format(svg, "<text class=\"small middle\" x=\"%" PRIu64 "\" y=\"%d\">%" PRIu64 "</text>",
-                   x + FLOW_WIDTH / 2, PLOT_HEIGHT + 27, flow);
-    }
-    svg_markup(svg, "\n");
+    svg_markup(svg, "\"/>");
+    draw_flow_letter(flowgram, flow, x + FLOW_WIDTH / 2);
 }
 
 static void draw_base(struct flowgram *flowgram, uint64_t base, uint64_t flow, uint64_t in_flow) {
@@ -152,119 +189,157 @@ static void draw_base(struct flowgram *flowgram, uint64_t base, uint64_t flow, u
                "<text class=\"letter%s\" data-base=\"%" PRIu64 "\" data-flow=\"%" PRIu64 "\" x=\"%" PRIu64
                "\" y=\"%" PRIu64 "\" fill=\"%s\">",
                kept ? "" : " clipped", base, flow, x, y, letter_colour((char)letter));
-    svg_bytes(svg, &letter, 1);
+    svg_letter(svg, letter);
     svg_markup(svg, "</text>\n");
 }
 
-/* The letters under the row's flows, from base `base`, whose flow is at hand, on; answers with the first of the next
- * row. */
-static uint64_t draw_bases(struct flowgram *flowgram, uint64_t row, uint64_t base, uint64_t *flow) {
-    uint64_t in_flow = 1;
-    while (base <= flowgram->read.bases && *flow <= (row + 1) * FLOWS) {
-        draw_base(flowgram, base, *flow, in_flow);
-        base++;
-        uint8_t step = base <= flowgram->read.bases ? step_of(flowgram, base) : 0;
-        *flow += step;
-        in_flow = step == 0 ? in_flow + 1 : 1;
+/* How many of a flow's letters are not drawn, where it has too many. */
+static void draw_more(struct flowgram *flowgram, uint64_t flow, uint64_t letters) {
+    if (letters > MOST_LETTERS) {
+        svg_format(&flowgram->picture->svg,
+                   "<text class=\"more small\" data-flow=\"%" PRIu64 "\" data-count=\"%" PRIu64
+                   "\" transform=\"translate(%" PRIu64 ",%d) rotate(90)\">+%s</text>\n",
+                   flow, letters - MOST_LETTERS, FLOW_WIDTH * ((flow - 1) % FLOWS) + 1,
+                   PLOT_HEIGHT + FLOW_LETTER_HEIGHT + LETTER_HEIGHT * MOST_LETTERS + 3,
+                   with_commas(letters - MOST_LETTERS).text);
     }
-    return base;
 }
 
-static int64_t row_height(const struct flowgram *flowgram) {
-    return PLOT_HEIGHT + FLOW_LETTER_HEIGHT + LETTER_HEIGHT * (int64_t)flowgram->most_letters + ROW_GAP;
-}
-
-static void draw_rows(struct flowgram *flowgram, int64_t y) {
-    struct svg *svg = &flowgram->picture->svg;
-    uint64_t base = 1;
-    uint64_t flow = flowgram->read.bases > 0 ? step_of(flowgram, 1) : 0;
-    for (uint64_t row = 0; row < flowgram->rows; row++) {
-        svg_format(svg, "<g class=\"row\" transform=\"translate(%d,%" PRId64 ")\">\n", PLOT_LEFT,
-                   y + (int64_t)row * row_height(flowgram));
-        draw_clips(flowgram, row);
-        draw_scale(flowgram);
-        for (uint64_t i = row * FLOWS + 1; i <= (row + 1) * FLOWS && i <= flowgram->header.flows; i++) {
-            draw_flow(flowgram, i, FLOW_WIDTH * (i - row * FLOWS - 1));
+/* The letters of the next base's flow. */
+static void draw_letters_of_flow(struct flowgram *flowgram) {
+    uint64_t flow = flowgram->next_flow;
+    uint64_t letters = 0;
+    do {
+        letters++;
+        if (letters <= MOST_LETTERS) {
+            draw_base(flowgram, flowgram->next_base, flow, letters);
         }
-        base = draw_bases(flowgram, row, base, &flow);
-        draw_file_refused(flowgram->picture, PLOT_WIDTH - 6, 14);
-        svg_markup(svg, "</g>\n");
-    }
+        flowgram->next_base++;
+    } while (flowgram->next_base <= flowgram->read.bases && step_of(flowgram, flowgram->next_base) == 0);
+    draw_more(flowgram, flow, letters);
+    flowgram->next_flow += step_of(flowgram, flowgram->next_base);
 }
 
-static void draw_colours(struct flowgram *flowgram, int y) {
+/* The rows are drawn in their order, so that each goes on with the letters where the one before it ended. */
+static void draw_row(void *subject, uint64_t row, int64_t y) {
+    struct flowgram *flowgram = subject;
+    struct svg *svg = &flowgram->picture->svg;
+    uint64_t last = (row + 1) * FLOWS;
+    svg_format(svg, "<g class=\"row\" transform=\"translate(%d,%" PRId64 ")\">\n", PLOT_LEFT, y);
+    draw_clips(flowgram, row);
+    draw_scale(flowgram);
+    for (uint64_t i = row * FLOWS + 1; i <= last && i <= flowgram->header.flows; i++) {
+        draw_flow(flowgram, i, FLOW_WIDTH * (i - row * FLOWS - 1));
+    }
+    while (flowgram->next_base <= flowgram->read.bases && flowgram->next_flow <= last) {
+        draw_letters_of_flow(flowgram);
+    }
+    draw_file_refused(flowgram->picture, PLOT_WIDTH - 6, 14);
+    svg_markup(svg, "</g>\n");
+    progress_show(row, flowgram->rows);
+}
+
+static void draw_left_out(void *subject, uint64_t index, int64_t y) {
+    struct flowgram *flowgram = subject;
+    uint64_t from = MOST_ROWS * FLOWS + 1;
+    (void)index;
+    svg_format(&flowgram->picture->svg,
+               "<text class=\"left-out\" data-from=\"%" PRIu64 "\" data-to=\"%" PRIu64 "\" x=\"%d\" y=\"%" PRId64
+               "\">Left out: flows %s to %s. A picture has at most %d rows.</text>\n",
+               from, flowgram->header.flows, PLOT_LEFT, y + 14, with_commas(from).text,
+               with_commas(flowgram->header.flows).text, MOST_ROWS);
+}
+
+static void draw_colours(struct flowgram *flowgram, int64_t y) {
     struct svg *svg = &flowgram->picture->svg;
     for (int i = 0; i < 4; i++) {
         char letter = "ACGT"[i];
-        svg_format(svg, "<rect x=\"%d\" y=\"%d\" width=\"14\" height=\"14\" fill=\"%s\"/>", 20 + 50 * i, y + 12,
-                   letter_colour(letter));
-        svg_format(svg, "<text x=\"%d\" y=\"%d\">%c</text>", 40 + 50 * i, y + 24, letter);
+        svg_format(svg, "<rect x=\"%d\" y=\"%" PRId64 "\" width=\"14\" height=\"14\" fill=\"%s\"/>", 20 + 50 * i,
+                   y + 12, letter_colour(letter));
+        svg_format(svg, "<text x=\"%d\" y=\"%" PRId64 "\">%c</text>", 40 + 50 * i, y + 24, letter);
     }
-    svg_format(svg, "<rect x=\"240\" y=\"%d\" width=\"30\" height=\"14\" fill=\"#d8d8d8\"/>", y + 12);
-    svg_format(svg, "<text x=\"278\" y=\"%d\">clipped</text>\n", y + 24);
+    svg_format(svg, "<rect class=\"shade\" x=\"240\" y=\"%" PRId64 "\" width=\"30\" height=\"14\" fill=\"#e8e8e8\"/>",
+               y + 12);
+    svg_format(svg, "<text x=\"278\" y=\"%" PRId64 "\">clipped</text>\n", y + 24);
 }
 
-static void draw_legend(struct flowgram *flowgram, int y) {
+static void draw_legend(void *subject, uint64_t index, int64_t top) {
+    enum { NAME_WIDTH = 420, NAME_FONT = 13 };
+    struct flowgram *flowgram = subject;
     struct svg *svg = &flowgram->picture->svg;
     const struct jt_sff_read *read = &flowgram->read;
-    svg_format(svg, "<text x=\"%d\" y=\"%d\"><tspan font-weight=\"bold\">%s</tspan> ", PICTURE_MARGIN, y,
+    int64_t y = top + 14;
+    (void)index;
+    svg_format(svg, "<text x=\"%d\" y=\"%" PRId64 "\"><tspan font-weight=\"bold\">%s</tspan> ", PICTURE_MARGIN, y,
                flowgram->part);
-    svg_bytes(svg, part_of(flowgram->picture->file, read->name_start, read->name_length), read->name_length);
-    svg_format(svg, ": %" PRIu64 " bases, ", read->bases);
+    svg_fitted(svg, part_of(flowgram->picture->file, read->name_start, read->name_length), read->name_length, NAME_FONT,
+               NAME_WIDTH);
+    svg_format(svg, ": %s bases, ", with_commas(read->bases).text);
     if (read->first <= read->last) {
-        svg_format(svg, "%" PRIu64 " to %" PRIu64 " kept", read->first, read->last);
+        svg_format(svg, "%s to %s kept", with_commas(read->first).text, with_commas(read->last).text);
     } else {
         svg_markup(svg, "none kept");
     }
-    svg_format(svg, "; %" PRIu64 " flows; of %" PRIu64 " reads</text>\n", flowgram->header.flows,
-               flowgram->header.reads);
+    svg_format(svg, "; %s flows; of %s reads</text>\n", with_commas(flowgram->header.flows).text,
+               with_commas(flowgram->header.reads).text);
     draw_colours(flowgram, y);
-    draw_file_refused(flowgram->picture, PICTURE_WIDTH - PICTURE_MARGIN, y);
+    draw_file_refused(flowgram->picture, PICTURE_WIDTH - PICTURE_MARGIN, y + 24);
+}
+
+static void draw_refused_header(void *subject, uint64_t index, int64_t y) {
+    struct flowgram *flowgram = subject;
+    struct box box = {PICTURE_MARGIN, y, PICTURE_WIDTH - 2 * PICTURE_MARGIN, PLOT_HEIGHT / 3};
+    (void)index;
+    draw_refused(flowgram->picture, (struct refused){"header", "header", 0, flowgram->header.refusal}, box);
+}
+
+static void draw_refused_read(void *subject, uint64_t index, int64_t y) {
+    struct flowgram *flowgram = subject;
+    struct box box = {PICTURE_MARGIN, y, PICTURE_WIDTH - 2 * PICTURE_MARGIN, PLOT_HEIGHT};
+    (void)index;
+    draw_refused(flowgram->picture, (struct refused){flowgram->part, flowgram->part, 0, flowgram->read.refusal}, box);
 }
 
 /* The header and the read, each as a hatched box where its own call refuses it. */
-static void draw_refused_read(struct flowgram *flowgram) {
-    struct picture *picture = flowgram->picture;
-    int y = picture_head_height(picture);
-    struct box box = {PICTURE_MARGIN, y, PICTURE_WIDTH - 2 * PICTURE_MARGIN, PLOT_HEIGHT};
-    bool header = flowgram->header.refusal != 0;
-    picture_begin(picture, y + PLOT_HEIGHT + PICTURE_MARGIN + (header ? PLOT_HEIGHT / 2 : 0));
-    if (header) {
-        box.height = PLOT_HEIGHT / 3;
-        draw_refused(picture, (struct refused){"header", "header", 0, flowgram->header.refusal}, box);
-        box.y += PLOT_HEIGHT / 2;
-        box.height = PLOT_HEIGHT;
+static void lay_out_refused(struct flowgram *flowgram, struct sheet *sheet) {
+    if (flowgram->header.refusal != 0) {
+        sheet_add(sheet, PLOT_HEIGHT / 2, draw_refused_header, 0);
     }
-    draw_refused(picture, (struct refused){flowgram->part, flowgram->part, 0, flowgram->read.refusal}, box);
-    picture_end(picture);
+    sheet_add(sheet, PLOT_HEIGHT, draw_refused_read, 0);
 }
 
-static void draw_flowgram(struct flowgram *flowgram) {
-    enum { LEGEND_HEIGHT = 60 };
-    struct picture *picture = flowgram->picture;
-    int64_t y = picture_head_height(picture) + LEGEND_HEIGHT;
+static void lay_out(struct flowgram *flowgram, struct sheet *sheet) {
     choose_scale(flowgram);
     find_clips(flowgram);
-    flowgram->rows = (flowgram->header.flows + FLOWS - 1) / FLOWS;
-    picture_begin(picture, y + (int64_t)flowgram->rows * row_height(flowgram));
-    draw_legend(flowgram, picture_head_height(picture) + 14);
-    draw_rows(flowgram, y);
-    picture_end(picture);
+    flowgram->next_base = 1;
+    flowgram->next_flow = step_of(flowgram, 1);
+    uint64_t rows = (flowgram->header.flows + FLOWS - 1) / FLOWS;
+    flowgram->rows = rows < MOST_ROWS ? rows : MOST_ROWS;
+    sheet_add(sheet, LEGEND_HEIGHT, draw_legend, 0);
+    for (uint64_t row = 0; row < flowgram->rows; row++) {
+        sheet_add(sheet, row_height(flowgram), draw_row, row);
+    }
+    if (rows > flowgram->rows) {
+        sheet_add(sheet, ROW_GAP, draw_left_out, 0);
+    }
 }
 
-bool draw_sff(struct picture *picture, uint64_t k) {
+bool draw_sff(struct picture *picture, const struct draw_options *options) {
     const struct file *file = picture->file;
     struct flowgram *flowgram = take(1, sizeof *flowgram);
+    struct sheet *sheet = take(1, sizeof *sheet);
     flowgram->picture = picture;
     flowgram->header = jt_sff_header(file->bytes, file->length);
-    flowgram->read = jt_sff_read(file->bytes, file->length, k);
-    snprintf(flowgram->part, sizeof flowgram->part, "read %" PRIu64, k);
+    flowgram->read = jt_sff_read(file->bytes, file->length, options->read);
+    snprintf(flowgram->part, sizeof flowgram->part, "read %" PRIu64, options->read);
     bool answered = flowgram->read.refusal == 0;
     if (answered) {
-        draw_flowgram(flowgram);
+        lay_out(flowgram, sheet);
     } else {
-        draw_refused_read(flowgram);
+        lay_out_refused(flowgram, sheet);
     }
+    sheet_draw(sheet, picture, flowgram);
+    free(sheet);
     free(flowgram);
     return answered;
 }

@@ -1,9 +1,12 @@
 #include "file.h"
 
 #include "bytes.h"
+#include "text.h"
 
 #include <errno.h>
 #include <fcntl.h>
+#include <limits.h>
+#include <stdio.h>
 #include <string.h>
 #include <sys/stat.h>
 #include <unistd.h>
@@ -27,15 +30,27 @@ static const char *take_file(struct file *file, int descriptor) {
     return file->bytes == NULL ? strerror(errno) : NULL;
 }
 
-static const char *volatile at_hand = "";
+/* The name of the file that was opened last, as it is shown: no byte takes more than three. */
+static char at_hand[3 * PATH_MAX];
 
-const char *file_at_hand(void) {
-    return at_hand;
+const char *file_at_hand(void) { return at_hand; }
+
+/* A path that is too long to be opened need not be told to its end. */
+static void keep_at_hand(const char *path) {
+    size_t length = strlen(path);
+    size_t used = 0;
+    at_hand[0] = '\0';
+    while (length > 0 && used + sizeof TEXT_UNSHOWN < sizeof at_hand) {
+        struct character character = text_character((const uint8_t *)path, length);
+        used += (size_t)snprintf(at_hand + used, sizeof at_hand - used, "%s", character.shown);
+        path += character.length;
+        length -= character.length;
+    }
 }
 
 const char *file_open(struct file *file, const char *path) {
     *file = (struct file){.path = path};
-    at_hand = path;
+    keep_at_hand(path);
     int descriptor = open(path, O_RDONLY | O_NONBLOCK | O_CLOEXEC);
     if (descriptor < 0) {
         return strerror(errno);
@@ -50,5 +65,4 @@ void file_close(struct file *file) {
         bytes_release(file->bytes, file->length);
     }
     *file = (struct file){.path = file->path};
-    at_hand = "";
 }

@@ -19,7 +19,7 @@ const char *file_open(struct file *file, const char *path);
 
 void file_close(struct file *file);
 
-/* The name of the file that was opened last, for a message when its bytes fail. */
+/* The name of the file that was opened last, as it is shown, for a message when its bytes fail. */
 const char *file_at_hand(void);
 
 #endif

@@ -1,6 +1,7 @@
 #include "format.h"
 
-#include "words.h"
+#include "explain.h"
+#include "text.h"
 
 #include <inttypes.h>
 #include <string.h>
@@ -34,21 +35,28 @@ bool is_whole(const struct judgement *judgement) {
     return judgement->format != FORMAT_UNKNOWN && judgement->verdict.refusal == 0;
 }
 
-enum status status_of(const struct judgement *judgement) {
-    return is_whole(judgement) ? STATUS_WHOLE : STATUS_REFUSED;
+enum status status_of(const struct judgement *judgement) { return is_whole(judgement) ? STATUS_WHOLE : STATUS_REFUSED; }
+
+void print_line_to(FILE *out, const struct file *file, const struct judgement *judgement) {
+    const jt_verdict *verdict = &judgement->verdict;
+    print_string(out, file->path);
+    fprintf(out, ": %s", format_name(judgement->format));
+    if (is_whole(judgement)) {
+        fprintf(out, " whole %" PRIu64 " of %zu", verdict->extent, file->length);
+    } else if (judgement->format != FORMAT_UNKNOWN) {
+        fprintf(out, " refused %" PRIu64 " at %" PRIu64, verdict->refusal, verdict->entry);
+    }
+    if (is_whole(judgement) && judgement->format == FORMAT_GTC) {
+        fprintf(out, " unjudged %" PRIu64, verdict->unjudged);
+    }
+    fputc('\n', out);
+    struct explanation explanation = explain(file, judgement);
+    if (explanation.sentences[0] != '\0') {
+        const char *between = explanation.headline[0] != '\0' ? ": " : "";
+        fprintf(out, "  %s%s%s\n", explanation.headline, between, explanation.sentences);
+    }
 }
 
 void print_line(const struct file *file, const struct judgement *judgement) {
-    const jt_verdict *verdict = &judgement->verdict;
-    print_path(stdout, file->path);
-    printf(": %s", format_name(judgement->format));
-    if (is_whole(judgement)) {
-        printf(" whole %" PRIu64 " of %zu", verdict->extent, file->length);
-    } else if (judgement->format != FORMAT_UNKNOWN) {
-        printf(" refused %" PRIu64 " at %" PRIu64, verdict->refusal, verdict->entry);
-    }
-    if (is_whole(judgement) && judgement->format == FORMAT_GTC) {
-        printf(" unjudged %" PRIu64, verdict->unjudged);
-    }
-    putchar('\n');
+    print_line_to(stdout, file, judgement);
 }

@@ -28,7 +28,9 @@ bool is_whole(const struct judgement *judgement);
 
 enum status status_of(const struct judgement *judgement);
 
-/* Prints the file's name and the program's line for it. */
+/* Prints the file's name and the program's line for it, and below it what that means, where there is something to say;
+   to stdout, or to another output. */
 void print_line(const struct file *file, const struct judgement *judgement);
+void print_line_to(FILE *out, const struct file *file, const struct judgement *judgement);
 
 #endif

@@ -6,9 +6,8 @@
 /* The entry as it stands, and what looking it up is refused with. */
 static bool print_entry(const struct file *file, const jt_entry *entry) {
     jt_item item = jt_abif_lookup(file->bytes, file->length, entry->name, entry->number);
-    print_tag_name(entry->name);
-    printf(" %11" PRId32 "  %5d %-9s %11" PRId32 " %11" PRId32 "  ", entry->number, entry->type,
-           abif_type_name(entry->type), entry->count, entry->data_size);
+    printf("%s %11" PRId32 "  %5d %-9s %11" PRId32 " %11" PRId32 "  ", tag_text(entry->name).text, entry->number,
+           entry->type, abif_type_name(entry->type), entry->count, entry->data_size);
     if (entry->data_size <= MOST_INLINE_BYTES) {
         printf("inline");
     } else {

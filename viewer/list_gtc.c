@@ -1,6 +1,7 @@
 #include "list.h"
 #include "numbers.h"
 #include "table.h"
+#include "text.h"
 #include "words.h"
 
 #include <inttypes.h>
@@ -15,7 +16,7 @@ static void print_value(const struct file *file, const struct gtc_row *row, cons
         break;
     case GTC_TEXT:
         printf("  ");
-        print_bytes(part_of(file, item->start, item->length), item->length);
+        print_text(stdout, part_of(file, item->start, item->length), item->length);
         break;
     case GTC_ARRAY:
         printf("  count %" PRIu64 ", %" PRIu64 " bytes at %" PRIu64, item->count, item->length, item->start);

@@ -1,31 +1,30 @@
-/* What all pictures have: a title, the banner of a refused file, hatched boxes. */
+/* What all pictures have in common: what they are drawn from, hatched boxes, levels, colours. */
 #ifndef VIEWER_PICTURE_H
 #define VIEWER_PICTURE_H
 
+#include "explain.h"
 #include "format.h"
 #include "svg.h"
 
-enum { PICTURE_WIDTH = 1320, PICTURE_MARGIN = 20, PLOT_LEFT = 92, PLOT_WIDTH = 1200 };
+enum { PICTURE_WIDTH = 1100, PICTURE_MARGIN = 20, PLOT_LEFT = 92, PLOT_WIDTH = 1000 };
 
-/* A line of the list of parts, or of a legend. */
-enum { PART_HEIGHT = 26 };
+/* A line of the list of parts, or of a legend; and the most rows of a picture. */
+enum { PART_HEIGHT = 26, MOST_ROWS = 200 };
 
 struct picture {
     const struct file *file;
     struct judgement judgement;
+    struct explanation explanation;
+    bool lost;         /* nothing in the file can be found: its header or its table cannot be read */
+    const char *paper; /* as CSS calls it, where the picture is made of pages; else NULL */
+    int page_height;
+    int64_t pages;
     struct svg svg;
 };
 
 struct box {
-    int x, y, width, height;
+    int64_t x, y, width, height;
 };
-
-/* How high the title and the banner are together: what is drawn begins below. */
-int picture_head_height(const struct picture *picture);
-
-/* Opens the picture: its title and, where judging refuses the file, the banner that says so. */
-void picture_begin(struct picture *picture, int64_t height);
-void picture_end(struct picture *picture);
 
 /* What its own call refuses: a channel or another part of the file. */
 struct refused {
@@ -38,13 +37,17 @@ struct refused {
 /* A hatched box in its place, with the refusal in it. */
 void draw_refused(struct picture *picture, struct refused refused, struct box box);
 
-/* A line across a plot, so many tenths of a pixel below its top, with its number at the left. */
-void draw_level(struct picture *picture, int64_t tenths, int64_t number);
+/* Words on white, so that they can be read over hatching. They start at `x`. */
+void draw_words(struct picture *picture, const char *class, const char *words, int64_t x, int64_t y, unsigned room);
+
+/* A line across a plot, so many tenths of a pixel below its top, with its number at the left where there is room. */
+void draw_level(struct picture *picture, int64_t tenths);
+void draw_level_number(struct picture *picture, int64_t tenths, int64_t number);
 
 /* The mark beside what is drawn of a refused file; it ends at `x`. */
-void draw_file_refused(struct picture *picture, int x, int y);
+void draw_file_refused(struct picture *picture, int x, int64_t y);
 
-/* A letter's colour: told apart by a colour-blind reader, and in grey by its lightness. */
+/* A letter's colour: dark enough on white, told apart by a colour-blind reader, and in grey by its lightness. */
 const char *letter_colour(char letter);
 
 #endif

@@ -3,41 +3,65 @@
 #define VIEWER_RUN_H
 
 #include "file.h"
+#include "jintarueng.h"
 
 #include <stdbool.h>
 
-enum { CHANNELS = 4 };
+/* The most channels that are drawn, and those that have a base. */
+enum { MOST_CHANNELS = 16, BASES = 4 };
 
-/* The whole numbers of an item, or its refusal, with which there are none. */
-struct item_numbers {
+/* An item of whole numbers, or its refusal, with which there are none. */
+struct series {
     char tag[16]; /* as in "DATA 9" */
+    uint32_t name;
+    int32_t number;
     uint64_t refusal;
     uint64_t count;
-    int64_t *values;
 };
 
 struct run {
-    bool raw; /* the channels are DATA 1 to 4, over which no letters stand */
-    struct item_numbers channels[CHANNELS];
-    struct item_numbers order;
-    char bases[CHANNELS]; /* each channel's base, or 0 where the order is not known */
-    struct item_numbers letters;
-    struct item_numbers places;
-    struct item_numbers qualities;
+    const struct file *file;
+    bool raw;            /* the channels are the raw ones, over which no letters stand */
+    bool fragment;       /* the file has no base order and no called letters, and need not */
+    struct series dyes;  /* Dye# 1 */
+    int64_t stated_dyes; /* what Dye# 1 says, or 0 where that is no number of dyes */
+    int channel_count;
+    struct series channels[MOST_CHANNELS];
+    struct series order;
+    char bases[MOST_CHANNELS]; /* each channel's base, or 0 where it has none or the order is not known */
+    struct series letters;
+    struct series places;
+    struct series qualities;
     bool placed;    /* there is a place for each letter */
     bool qualified; /* there is a quality for each letter */
 };
 
-/* DATA 9 to 12; DATA 1 to 4 where that is asked for, and where the file has none of the four. */
+/* The analysed channels; the raw ones where that is asked for, and where the file has no analysed one. */
 void run_read(struct run *run, const struct file *file, bool raw);
 
-void run_free(struct run *run);
+/* Up to `room` values of an item, from number `first`, from 0, on; answers how many. */
+uint64_t series_values(const struct file *file, const struct series *series, uint64_t first, int64_t *values,
+                       uint64_t room);
 
-/* Whether base `i`, from 0, is shown: every trace that its letter stands for is there at its place. */
-bool letter_is_shown(const struct run *run, uint64_t i);
+/* Values of an item, some thousands at a time: so many, from number `first`, from 0, on. */
+typedef void visit_values(void *context, uint64_t first, const int64_t *values, uint64_t count);
 
-/* Whether one of its traces has its last value at the letter's place. */
-bool letter_ends_a_trace(const struct run *run, uint64_t i);
+/* Visits the values from number `first` on, as far as they are there, to just before number `behind`. */
+void series_visit(const struct file *file, const struct series *series, uint64_t first, uint64_t behind,
+                  visit_values *visit, void *context);
+
+/* An item's first element, where it is a whole number; else `otherwise`. */
+int64_t first_value(const struct file *file, const char *name, int32_t number, int64_t otherwise);
+
+/* Where the name that the file gives its sample stands, or its refusal. */
+jt_part run_sample_name(const struct file *file);
+
+/* How many channels are refused, and whether the directory has one at all. */
+int refused_channels(const struct run *run);
+bool has_channels(const struct run *run);
+
+/* How many values all traces have that the letter stands for: as many as the shortest of them. 0 without an order. */
+uint64_t traced_length(const struct run *run, int64_t letter);
 
 /* How many values the longest channel has that is there. */
 uint64_t run_length(const struct run *run);

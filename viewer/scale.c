@@ -14,8 +14,11 @@ int64_t round_above(int64_t value) {
     }
 }
 
-struct bounds bounds_of(const int64_t *values, uint64_t count) {
-    struct bounds bounds = {0, 0};
+struct bounds bounds_of_none(void) {
+    return (struct bounds){INT64_MAX, INT64_MIN};
+}
+
+struct bounds bounds_with(struct bounds bounds, const int64_t *values, uint64_t count) {
     for (uint64_t i = 0; i < count; i++) {
         bounds.lowest = values[i] < bounds.lowest ? values[i] : bounds.lowest;
         bounds.highest = values[i] > bounds.highest ? values[i] : bounds.highest;
@@ -23,14 +26,24 @@ struct bounds bounds_of(const int64_t *values, uint64_t count) {
     return bounds;
 }
 
-enum { BINS = 4096 };
+struct bounds bounds_of_both(struct bounds left, struct bounds right) {
+    return (struct bounds){left.lowest < right.lowest ? left.lowest : right.lowest,
+                           left.highest > right.highest ? left.highest : right.highest};
+}
 
-/* How many of the values lie at each distance from 0, `shift` bits coarser; those on the other side count as 0. */
-static void count_distances(const int64_t *values, uint64_t count, int64_t sign, unsigned shift, uint64_t bins[BINS]) {
-    for (uint64_t i = 0; i < count; i++) {
-        int64_t distance = sign * values[i];
-        bins[distance < 0 ? 0 : distance >> shift]++;
+void distances_begin(struct distances *distances, int64_t sign, int64_t furthest) {
+    *distances = (struct distances){.sign = sign, .furthest = furthest};
+    while (furthest >> distances->shift >= BINS) {
+        distances->shift++;
     }
+}
+
+void distances_add(struct distances *distances, const int64_t *values, uint64_t count) {
+    for (uint64_t i = 0; i < count; i++) {
+        int64_t distance = distances->sign * values[i];
+        distances->bins[distance < 0 ? 0 : distance >> distances->shift]++;
+    }
+    distances->count += count;
 }
 
 /* The first bin, from the highest down, with which more than `few` are counted. */
@@ -44,14 +57,9 @@ static int64_t bin_above_few(const uint64_t bins[BINS], uint64_t few) {
     return bin;
 }
 
-int64_t usual_level(const int64_t *values, uint64_t count, int64_t sign, int64_t furthest) {
+int64_t usual_level(const struct distances *distances) {
     enum { OUT_OF = 500 };
-    uint64_t bins[BINS] = {0};
-    unsigned shift = 0;
-    while (furthest >> shift >= BINS) {
-        shift++;
-    }
-    count_distances(values, count, sign, shift, bins);
-    int64_t level = ((bin_above_few(bins, count / OUT_OF) + 1) << shift) * 3 / 2;
-    return level < furthest ? level : furthest;
+    int64_t bin = bin_above_few(distances->bins, distances->count / OUT_OF);
+    int64_t level = ((bin + 1) << distances->shift) * 3 / 2;
+    return level < distances->furthest ? level : distances->furthest;
 }

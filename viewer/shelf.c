@@ -73,9 +73,7 @@ static void judge_file(struct shelf *shelf, const char *path) {
     file_close(&file);
 }
 
-static int by_bytes(const void *left, const void *right) {
-    return strcmp(*(char *const *)left, *(char *const *)right);
-}
+static int by_bytes(const void *left, const void *right) { return strcmp(*(char *const *)left, *(char *const *)right); }
 
 /* NULL at the end, and, with errno, where the folder cannot be read on. */
 static struct dirent *next_entry(DIR *folder) {
@@ -163,8 +161,9 @@ static void print_summary(const struct shelf *shelf) {
            files, shelf->whole, shelf->refused, shelf->unknown, shelf->unreadable);
     for (uint64_t refusal = 1; refusal < REFUSALS; refusal++) {
         if (shelf->by_number[refusal] > 0) {
-            printf("  refused %" PRIu64 ": %" PRIu64 " (%s)\n", refusal, shelf->by_number[refusal],
-                   refusal_meaning(refusal));
+            uint64_t counted = shelf->by_number[refusal];
+            printf("  %" PRIu64 " %s refused %" PRIu64 ": %s\n", counted, counted == 1 ? "file" : "files", refusal,
+                   refusal_words(refusal));
         }
     }
 }

@@ -1,64 +1,23 @@
 #include "svg.h"
 
+#include "text.h"
+
 #include <errno.h>
-#include <fcntl.h>
-#include <limits.h>
-#include <signal.h>
 #include <stdarg.h>
 #include <stdio.h>
-#include <stdlib.h>
 #include <string.h>
-#include <sys/stat.h>
 #include <unistd.h>
 
-/* The file beside the picture's place that is being written, or none. */
-static char unfinished[PATH_MAX];
-static volatile sig_atomic_t is_unfinished;
-
-void svg_abandon(void) {
-    if (is_unfinished) {
-        unlink(unfinished);
-    }
-}
-
-/* With the rights that a file has that is just made. */
-static void give_usual_rights(int descriptor) {
-    mode_t mask = umask(0);
-    umask(mask);
-    fchmod(descriptor, 0666 & ~mask);
-}
-
-/* What is no regular file, as a terminal or a link, is written to as it is; else a file beside it is, which takes its
-   place when it is whole. */
-static int open_picture(const char *path) {
-    struct stat state;
-    if (lstat(path, &state) == 0 && !S_ISREG(state.st_mode)) {
-        return open(path, O_WRONLY | O_CREAT | O_TRUNC | O_CLOEXEC, 0666);
-    }
-    if ((size_t)snprintf(unfinished, sizeof unfinished, "%s.XXXXXX", path) >= sizeof unfinished) {
-        errno = ENAMETOOLONG;
-        return -1;
-    }
-    int descriptor = mkstemp(unfinished);
-    if (descriptor >= 0) {
-        is_unfinished = 1;
-        give_usual_rights(descriptor);
-    }
-    return descriptor;
-}
-
-const char *svg_open(struct svg *svg, const char *path) {
-    svg->path = path;
+const char *svg_open(struct svg *svg, const char *path, const char *mark) {
     svg->used = 0;
     svg->failure = NULL;
-    svg->descriptor = open_picture(path);
-    return svg->descriptor < 0 ? strerror(errno) : NULL;
+    return output_open(&svg->output, path, mark);
 }
 
 static void flush(struct svg *svg) {
     size_t done = 0;
     while (done < svg->used && svg->failure == NULL) {
-        ssize_t written = write(svg->descriptor, svg->buffer + done, svg->used - done);
+        ssize_t written = write(svg->output.descriptor, svg->buffer + done, svg->used - done);
         if (written >= 0) {
             done += (size_t)written;
         } else if (errno != EINTR) {
@@ -70,17 +29,7 @@ static void flush(struct svg *svg) {
 
 const char *svg_close(struct svg *svg) {
     flush(svg);
-    if (close(svg->descriptor) != 0 && svg->failure == NULL) {
-        svg->failure = strerror(errno);
-    }
-    if (is_unfinished && svg->failure == NULL && rename(unfinished, svg->path) != 0) {
-        svg->failure = strerror(errno);
-    }
-    if (svg->failure != NULL) {
-        svg_abandon();
-    }
-    is_unfinished = 0;
-    return svg->failure;
+    return output_close(&svg->output, svg->failure);
 }
 
 char *svg_room(struct svg *svg, size_t length) {
@@ -90,18 +39,14 @@ char *svg_room(struct svg *svg, size_t length) {
     return svg->buffer + svg->used;
 }
 
-void svg_used(struct svg *svg, size_t length) {
-    svg->used += length;
-}
+void svg_used(struct svg *svg, size_t length) { svg->used += length; }
 
 static void append(struct svg *svg, const char *bytes, size_t length) {
     memcpy(svg_room(svg, length), bytes, length);
     svg_used(svg, length);
 }
 
-void svg_markup(struct svg *svg, const char *markup) {
-    append(svg, markup, strlen(markup));
-}
+void svg_markup(struct svg *svg, const char *markup) { append(svg, markup, strlen(markup)); }
 
 void svg_format(struct svg *svg, const char *format, ...) {
     enum { MOST = 2048 };
@@ -112,40 +57,28 @@ void svg_format(struct svg *svg, const char *format, ...) {
     svg_used(svg, length < 0 ? 0 : length < MOST ? (size_t)length : MOST - 1);
 }
 
-/* Writes the digits backwards from `end`, in groups of `group` with commas between them, and tells where they begin. */
-static char *digits_before(char *end, uint64_t number, unsigned group) {
-    unsigned written = 0;
-    do {
-        if (written != 0 && written % group == 0) {
-            *--end = ',';
-        }
-        *--end = (char)('0' + number % 10);
-        number /= 10;
-        written++;
-    } while (number != 0);
-    return end;
-}
+static uint64_t magnitude(int64_t number) { return number < 0 ? -(uint64_t)number : (uint64_t)number; }
 
-static uint64_t magnitude(int64_t number) {
-    return number < 0 ? -(uint64_t)number : (uint64_t)number;
-}
-
-static void append_digits(struct svg *svg, int64_t number, unsigned group) {
-    char digits[32];
+void svg_number(struct svg *svg, int64_t number) {
+    char digits[24];
     char *end = digits + sizeof digits;
-    char *start = digits_before(end, magnitude(number), group);
+    char *start = end;
+    uint64_t rest = magnitude(number);
+    do {
+        *--start = (char)('0' + rest % 10);
+        rest /= 10;
+    } while (rest != 0);
     if (number < 0) {
         *--start = '-';
     }
     append(svg, start, (size_t)(end - start));
 }
 
-void svg_number(struct svg *svg, int64_t number) {
-    append_digits(svg, number, 64);
-}
-
 void svg_grouped(struct svg *svg, int64_t number) {
-    append_digits(svg, number, 3);
+    if (number < 0) {
+        svg_markup(svg, "-");
+    }
+    svg_markup(svg, with_commas(magnitude(number)).text);
 }
 
 void svg_tenths(struct svg *svg, int64_t tenths) {
@@ -158,30 +91,6 @@ void svg_tenths(struct svg *svg, int64_t tenths) {
         char fraction[] = {'.', (char)('0' + parts % 10)};
         append(svg, fraction, sizeof fraction);
     }
-}
-
-/* How many bytes the UTF-8 character at the front takes, 0 where there is none that XML allows. */
-static size_t character_length(const unsigned char *text) {
-    static const struct {
-        unsigned char mask, lead;
-        unsigned lowest;
-    } shapes[] = {{0x80, 0x00, 0x20}, {0xE0, 0xC0, 0x80}, {0xF0, 0xE0, 0x800}, {0xF8, 0xF0, 0x10000}};
-    for (size_t more = 0; more < 4; more++) {
-        if ((text[0] & shapes[more].mask) != shapes[more].lead) {
-            continue;
-        }
-        unsigned code = text[0] & (unsigned char)~shapes[more].mask;
-        for (size_t i = 1; i <= more; i++) {
-            if ((text[i] & 0xC0) != 0x80) {
-                return 0;
-            }
-            code = code << 6 | (text[i] & 0x3F);
-        }
-        bool forbidden = code < shapes[more].lowest || code == 0x7F || (code >= 0xD800 && code < 0xE000) ||
-                         (code & 0xFFFE) == 0xFFFE || code > 0x10FFFF;
-        return forbidden ? 0 : more + 1;
-    }
-    return 0;
 }
 
 static const char *escape_of(char character) {
@@ -199,25 +108,60 @@ static const char *escape_of(char character) {
     }
 }
 
-void svg_escaped(struct svg *svg, const char *text) {
-    while (*text != '\0') {
-        size_t length = character_length((const unsigned char *)text);
-        const char *escape = escape_of(*text);
-        if (length == 0) {
-            svg_markup(svg, "\xEF\xBF\xBD");
-            length = 1;
-        } else if (escape != NULL) {
-            svg_markup(svg, escape);
-        } else {
-            append(svg, text, length);
-        }
-        text += length;
+static void append_character(struct svg *svg, const char *shown) {
+    const char *escape = escape_of(shown[0]);
+    svg_markup(svg, escape != NULL ? escape : shown);
+}
+
+void svg_text(struct svg *svg, const uint8_t *bytes, size_t length) {
+    while (length > 0) {
+        struct character character = text_character(bytes, length);
+        append_character(svg, character.shown);
+        bytes += character.length;
+        length -= character.length;
     }
 }
 
-void svg_bytes(struct svg *svg, const uint8_t *bytes, size_t length) {
-    for (size_t i = 0; i < length; i++) {
-        char character[] = {bytes[i] >= 32 && bytes[i] <= 126 ? (char)bytes[i] : '.', '\0'};
-        svg_escaped(svg, character);
+void svg_string(struct svg *svg, const char *string) { svg_text(svg, (const uint8_t *)string, strlen(string)); }
+
+enum { THOUSANDTHS = 1000 };
+
+unsigned text_width(const uint8_t *bytes, size_t length, unsigned size, unsigned enough) {
+    uint64_t width = 0;
+    while (length > 0 && width <= (uint64_t)enough * THOUSANDTHS) {
+        struct character character = text_character(bytes, length);
+        width += character_width(character.code) * size;
+        bytes += character.length;
+        length -= character.length;
     }
+    return (unsigned)((width + THOUSANDTHS - 1) / THOUSANDTHS);
+}
+
+/* As much of the front as leaves room for the ellipsis. */
+static size_t fitting_length(const uint8_t *bytes, size_t length, unsigned size, unsigned room) {
+    size_t fits = 0;
+    uint64_t width = (uint64_t)THOUSANDTHS * size;
+    while (fits < length) {
+        struct character character = text_character(bytes + fits, length - fits);
+        width += character_width(character.code) * size;
+        if (width > (uint64_t)room * THOUSANDTHS) {
+            break;
+        }
+        fits += character.length;
+    }
+    return fits;
+}
+
+void svg_fitted(struct svg *svg, const uint8_t *bytes, size_t length, unsigned size, unsigned room) {
+    if (text_width(bytes, length, size, room) <= room) {
+        svg_text(svg, bytes, length);
+        return;
+    }
+    svg_text(svg, bytes, fitting_length(bytes, length, size, room));
+    svg_markup(svg, TEXT_ELLIPSIS);
+}
+
+void svg_letter(struct svg *svg, uint8_t letter) {
+    char shown[] = {letter > ' ' && letter <= '~' ? (char)letter : '.', '\0'};
+    append_character(svg, shown);
 }

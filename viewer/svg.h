@@ -1,6 +1,8 @@
-/* An SVG file as it is written, piece by piece. */
+/* A picture's markup as it is written, piece by piece. */
 #ifndef VIEWER_SVG_H
 #define VIEWER_SVG_H
+
+#include "output.h"
 
 #include <stdbool.h>
 #include <stddef.h>
@@ -9,21 +11,17 @@
 enum { SVG_BUFFER = 1 << 16 };
 
 struct svg {
-    const char *path;
-    int descriptor;
+    struct output output;
     size_t used;
     const char *failure; /* NULL, or the reason of the first write that failed */
     char buffer[SVG_BUFFER];
 };
 
-/* NULL, or the reason why the file cannot be written. */
-const char *svg_open(struct svg *svg, const char *path);
+/* NULL, or the reason why the file cannot be written; an existing one is replaced only where it begins with `mark`. */
+const char *svg_open(struct svg *svg, const char *path, const char *mark);
 
 /* The same. The picture is in its place only from here on, and only if it could be written whole. */
 const char *svg_close(struct svg *svg);
-
-/* Removes what is written of a picture, if one is being written: for a program that ends before its time. */
-void svg_abandon(void);
 
 /* Room for `length` bytes, at most SVG_BUFFER, at the end of what is written; svg_used tells how many were filled. */
 char *svg_room(struct svg *svg, size_t length);
@@ -38,10 +36,17 @@ void svg_number(struct svg *svg, int64_t number);
 void svg_tenths(struct svg *svg, int64_t tenths);
 void svg_grouped(struct svg *svg, int64_t number);
 
-/* Text between or inside of tags: what markup would take for its own is escaped, what XML forbids becomes U+FFFD. */
-void svg_escaped(struct svg *svg, const char *text);
+/* Text between or inside of tags, as it is shown, with what markup would take for its own escaped. */
+void svg_text(struct svg *svg, const uint8_t *bytes, size_t length);
+void svg_string(struct svg *svg, const char *string);
 
-/* Bytes of a file as text: those outside 32 to 126 as a full stop. */
-void svg_bytes(struct svg *svg, const uint8_t *bytes, size_t length);
+/* The same, shortened with an ellipsis where it might be wider than `room` pixels in a font of `size`. */
+void svg_fitted(struct svg *svg, const uint8_t *bytes, size_t length, unsigned size, unsigned room);
+
+/* A letter of a file; a full stop for what is none. */
+void svg_letter(struct svg *svg, uint8_t letter);
+
+/* How wide the text is at most in a font of `size`, in pixels; counted no further than just above `enough`. */
+unsigned text_width(const uint8_t *bytes, size_t length, unsigned size, unsigned enough);
 
 #endif

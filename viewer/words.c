@@ -1,29 +1,31 @@
 #include "words.h"
 
+#include "text.h"
+
 #include <inttypes.h>
 #include <string.h>
 
-const char *refusal_meaning(uint64_t refusal) {
-    static const char *const meanings[] = {
-        [1] = "cut short: a byte that the rule needs lies at or past the end",
-        [2] = "opening mark of another kind",
-        [3] = "version not handled",
-        [4] = "header fields contradict the format",
+const char *refusal_words(uint64_t refusal) {
+    static const char *const words[] = {
+        [1] = "missing: the file ends too soon",
+        [2] = "of another kind",
+        [3] = "of another version",
+        [4] = "the header contradicts itself",
         [5] = "more than 999 entries",
-        [6] = "negative offset, or offset below the lowest allowed",
-        [7] = "no such tag, id or read",
-        [8] = "tag or id stands twice",
-        [9] = "sizes or counts contradict each other",
-        [10] = "type or id not handled by this call",
-        [11] = "a value that the format forbids",
-        [12] = "no such element",
-        [13] = "lent output too small",
-        [14] = "items not strictly ascending",
+        [6] = "cannot stand where the table of contents says",
+        [7] = "not in this file",
+        [8] = "stands in the file twice",
+        [9] = "its sizes do not fit each other",
+        [10] = "of a type that is not shown this way",
+        [11] = "holds a value that the format forbids",
+        [12] = "has no values",
+        [13] = "the room lent is too small",
+        [14] = "not in ascending order",
     };
-    if (refusal < 1 || refusal >= sizeof meanings / sizeof meanings[0]) {
-        return "no refusal";
+    if (refusal < 1 || refusal >= sizeof words / sizeof words[0]) {
+        return "not refused";
     }
-    return meanings[refusal];
+    return words[refusal];
 }
 
 const char *abif_type_name(int64_t code) {
@@ -98,19 +100,13 @@ void genotype_name(int code, int ploidy, int b_alleles, char name[GENOTYPE_LENGT
 }
 
 void print_refusal(uint64_t refusal) {
-    printf("refused %" PRIu64 ": %s", refusal, refusal_meaning(refusal));
+    printf("%s (refused %" PRIu64 ")", refusal_words(refusal), refusal);
 }
 
 void print_refused(const char *what, uint64_t refusal) {
-    printf("%s ", what);
+    printf("%s: ", what);
     print_refusal(refusal);
     putchar('\n');
-}
-
-void print_bytes(const uint8_t *bytes, size_t length) {
-    for (size_t i = 0; i < length; i++) {
-        putchar(bytes[i] >= 32 && bytes[i] <= 126 ? bytes[i] : '.');
-    }
 }
 
 uint32_t tag_name(const char *letters) {
@@ -118,24 +114,23 @@ uint32_t tag_name(const char *letters) {
     return (uint32_t)bytes[0] << 24 | (uint32_t)bytes[1] << 16 | (uint32_t)bytes[2] << 8 | bytes[3];
 }
 
-struct tag_letters tag_letters(uint32_t name) {
-    return (struct tag_letters){{(uint8_t)(name >> 24), (uint8_t)(name >> 16), (uint8_t)(name >> 8), (uint8_t)name}};
+struct tag_text tag_text(uint32_t name) {
+    struct tag_text tag = {.text = ""};
+    for (int i = 0; i < 4; i++) {
+        uint8_t byte = (uint8_t)(name >> (24 - 8 * i));
+        tag.text[i] = byte >= ' ' && byte <= '~' ? (char)byte : '.';
+    }
+    return tag;
 }
 
-void print_tag_name(uint32_t name) {
-    struct tag_letters letters = tag_letters(name);
-    print_bytes(letters.bytes, sizeof letters.bytes);
-}
-
-void print_path(FILE *out, const char *path) {
-    for (; *path != '\0'; path++) {
-        unsigned char byte = (unsigned char)*path;
-        fputc(byte < 32 || byte == 127 ? '?' : byte, out);
+void print_letters(const uint8_t *letters, size_t length) {
+    for (size_t i = 0; i < length; i++) {
+        putchar(letters[i] > ' ' && letters[i] <= '~' ? letters[i] : '.');
     }
 }
 
 void tell_failure(const char *path, const char *reason) {
     fputs("jtview: ", stderr);
-    print_path(stderr, path);
+    print_string(stderr, path);
     fprintf(stderr, ": %s\n", reason);
 }

@@ -7,12 +7,20 @@
 #include <stdio.h>
 
 /* The refusals that the viewer tells apart. */
-enum { NOT_THERE = 7, TWICE = 8, TYPE_NOT_HANDLED = 10, FORBIDDEN_VALUE = 11, NO_SUCH_ELEMENT = 12 };
+enum {
+    CUT_SHORT = 1,
+    ANOTHER_VERSION = 3,
+    NOT_THERE = 7,
+    TWICE = 8,
+    TYPE_NOT_HANDLED = 10,
+    FORBIDDEN_VALUE = 11,
+    NO_SUCH_ELEMENT = 12
+};
 
-/* What a refusal's number means. */
-const char *refusal_meaning(uint64_t refusal);
+/* What a refusal's number says of a part of a file, in plain words. */
+const char *refusal_words(uint64_t refusal);
 
-/* Prints a refusal with its meaning, and as a line of its own with what is refused. */
+/* Prints a refusal in words and its number, and as a line of its own with what is refused. */
 void print_refusal(uint64_t refusal);
 void print_refused(const char *what, uint64_t refusal);
 
@@ -42,22 +50,20 @@ enum { NULL_GENOTYPE = 4, GENOTYPE_LENGTH = 16 };
 /* A genotype's name: as many letters as its ploidy, A first and then B; NC or NULL where there are none. */
 void genotype_name(int code, int ploidy, int b_alleles, char name[GENOTYPE_LENGTH]);
 
-/* Prints bytes as text: those outside 32 to 126 as a full stop. */
-void print_bytes(const uint8_t *bytes, size_t length);
-
 /* An ABIF directory's most entries, and the most bytes of data that stand in the entry itself. */
 enum { MOST_ENTRIES = 999, MOST_INLINE_BYTES = 4 };
 
-/* A tag's name as a number, from its four letters, and its four bytes. */
-struct tag_letters {
-    uint8_t bytes[4];
+/* A tag's name as a number, from its four letters. */
+uint32_t tag_name(const char *letters);
+
+/* A tag's name as it is shown: bytes outside 32 to 126 as a full stop. */
+struct tag_text {
+    char text[5];
 };
 
-uint32_t tag_name(const char *letters);
-struct tag_letters tag_letters(uint32_t name);
+struct tag_text tag_text(uint32_t name);
 
-/* Prints a tag's name, and a file's name with control characters as a question mark. */
-void print_tag_name(uint32_t name);
-void print_path(FILE *out, const char *path);
+/* Prints flow letters or key letters: those that cannot be seen as a full stop. */
+void print_letters(const uint8_t *letters, size_t length);
 
 #endif
