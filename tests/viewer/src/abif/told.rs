@@ -32,7 +32,7 @@ fn check_channel(
         .iter()
         .filter(|text| text.starts_with(&start))
         .collect();
-    lines.retain(|line| line.contains(" points") || line.contains('…'));
+    lines.retain(|line| line.contains(" point") || line.contains('…'));
     let expected = channel.values.as_ref().ok().map(|values| {
         let mut line = channel.part.clone();
         let facts = facts(bytes, raw, channel, values.len());
@@ -60,7 +60,10 @@ fn facts(bytes: &[u8], raw: bool, channel: &Channel, count: usize) -> Vec<String
         dye.map(|dye| format!("dye {}", cleaned(dye))),
         wave_length.map(|length| format!("{} nm", grouped(length))),
         Some(kind.to_string()),
-        Some(format!("{} points", grouped(count as i64))),
+        Some(match count {
+            1 => "1 point".to_string(),
+            count => format!("{} points", grouped(count as i64)),
+        }),
         is_refused.then(|| "file refused".to_string()),
     ];
     facts.into_iter().flatten().collect()

@@ -57,7 +57,7 @@ fn check_read(findings: &mut Findings, root: &Element, bytes: &[u8], header: Hea
     let all_flows = usize::from(header.flows);
     let flows = all_flows.min(MOST_ROWS * FLOWS_IN_A_ROW);
     let rows = of_class(root, "row").len();
-    let expected = flows.div_ceil(FLOWS_IN_A_ROW).max(1);
+    let expected = flows.div_ceil(FLOWS_IN_A_ROW);
     findings.check(rows == expected, || {
         format!("{rows} rows for {flows} flows")
     });
