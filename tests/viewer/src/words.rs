@@ -1,6 +1,6 @@
 //! What a line of the viewer's lists must say, whatever the spaces between its words.
 
-use crate::verdict;
+use crate::sentences;
 use compare::refusal::Refusal;
 
 pub enum Line {
@@ -60,16 +60,56 @@ pub fn fault(expected: &[Line], printed: &[&str]) -> Option<String> {
 
 /// A refusal as it is told.
 pub fn refused(refusal: Refusal) -> String {
-    format!("refused {}: {}", refusal as u64, verdict::meaning(refusal))
+    let number = refusal as u64;
+    format!("{} (refused {number})", sentences::words(number))
 }
 
-/// Bytes as they are shown: those outside 32 to 126 as a full stop.
+/// A tag's name as it is shown: bytes outside 32 to 126 as a full stop.
 pub fn shown(bytes: &[u8]) -> String {
     let letter = |&byte: &u8| match byte {
         32..=126 => char::from(byte),
         _ => '.',
     };
     bytes.iter().map(letter).collect()
+}
+
+/// Flow letters and key letters as they are shown: a blank is a full stop too.
+pub fn shown_letters(bytes: &[u8]) -> String {
+    shown(bytes).replace(' ', ".")
+}
+
+/// A text from outside as it is shown: each character that is not shown, and each byte that belongs to no character,
+/// as one mark.
+pub fn cleaned(mut bytes: &[u8]) -> String {
+    let mut text = String::new();
+    while !bytes.is_empty() {
+        let (character, length) = first_character(bytes).unwrap_or(('\u{FFFD}', 1));
+        text.push(if is_shown(character) {
+            character
+        } else {
+            '\u{FFFD}'
+        });
+        bytes = &bytes[length..];
+    }
+    text
+}
+
+fn first_character(bytes: &[u8]) -> Option<(char, usize)> {
+    let lengths = 1..=bytes.len().min(4);
+    let mut characters = lengths.filter_map(|length| {
+        let text = std::str::from_utf8(&bytes[..length]).ok()?;
+        Some((text.chars().next()?, length))
+    });
+    characters.next()
+}
+
+/// Whether a character may reach a terminal.
+pub fn is_shown(character: char) -> bool {
+    let code = u32::from(character);
+    let is_hidden = matches!(code,
+        0..=0x1F | 0x7F..=0x9F | 0x61C | 0x200B..=0x200F | 0x2028..=0x202E | 0x2060..=0x2069
+        | 0xFEFF | 0xFFF9..=0xFFFB | 0xFDD0..=0xFDEF);
+    !is_hidden && code & 0xFFFE != 0xFFFE
 }
 
 fn collapsed(text: &str) -> String {

@@ -1,6 +1,6 @@
 //! What listing an ABIF file and showing its items must print, by the independent reader.
 
-use crate::words::{refused, shown, Line};
+use crate::words::{cleaned, refused, shown, Line};
 use compare::abif::reader::{element, lookup, open, text, Entry, Item, Tag, Type, Value};
 
 const NUMBERS_A_LINE: usize = 10;
@@ -11,7 +11,7 @@ const LETTERS_A_LINE: usize = 60;
 pub fn list(bytes: &[u8]) -> Vec<Line> {
     let directory = match open(bytes) {
         Ok(directory) => directory,
-        Err(refusal) => return vec![Line::Text(format!("directory {}", refused(refusal)))],
+        Err(refusal) => return vec![Line::Text(format!("directory: {}", refused(refusal)))],
     };
     let mut lines = vec![Line::Text("tag number type count size place".to_string())];
     let entries = directory.entries(bytes);
@@ -79,7 +79,7 @@ fn type_name(code: i16) -> &'static str {
 pub fn show(bytes: &[u8], tag: Tag) -> Vec<Line> {
     let item = match lookup(bytes, tag) {
         Ok(item) => item,
-        Err(refusal) => return vec![Line::Text(format!("item {}", refused(refusal)))],
+        Err(refusal) => return vec![Line::Text(format!("item: {}", refused(refusal)))],
     };
     let first = format!(
         "{} {} type {} {} count {} size {} {}",
@@ -100,8 +100,8 @@ fn data_lines(bytes: &[u8], tag: Tag, item: &Item) -> Vec<Line> {
     let data = &bytes[item.start..item.start + item.length];
     match item.kind {
         Type::PString | Type::CString => vec![Line::Text(match text(bytes, tag) {
-            Ok(part) => shown(&bytes[part]),
-            Err(refusal) => format!("text {}", refused(refusal)),
+            Ok(part) => cleaned(&bytes[part]),
+            Err(refusal) => format!("text: {}", refused(refusal)),
         })],
         Type::Raw if data.is_empty() => vec![Line::Text("no bytes".to_string())],
         Type::Raw => {

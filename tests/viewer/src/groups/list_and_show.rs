@@ -10,7 +10,7 @@ use crate::verdict::{self, Format};
 use crate::words::{self, Line};
 use crate::workers;
 use crate::{abif, gtc, sff};
-use compare::abif::generate::Order;
+use compare::abif::generate::{plain_file, Content, Order};
 use compare::abif::reader::{element, lookup, open, text, Tag, Type};
 use compare::refusal::Refusal;
 use compare::report::Group;
@@ -19,8 +19,15 @@ use compare::sff::reader::every_read;
 use std::ffi::OsString;
 use std::os::unix::ffi::{OsStrExt, OsStringExt};
 use std::path::Path;
+use std::time::{Duration, Instant};
 
 const DAMAGED: usize = 150;
+const MOST_ENTRIES: i32 = 999;
+const CHAR: i16 = 2;
+const SHORT: i16 = 4;
+const BOOL: i16 = 13;
+const MANY: usize = 4_000_000;
+const MOST_TIME: Duration = Duration::from_secs(1);
 const MOST_TAGS: usize = 30;
 
 pub fn list_and_show(group: &mut Group) {
@@ -46,33 +53,98 @@ pub fn list_and_show(group: &mut Group) {
     for (found, input) in findings.into_iter().zip(&inputs) {
         found.report(group, &input.name, &input.bytes);
     }
+    many_elements(group, &scratch);
+    many_numbers(group, &scratch);
+}
+
+// The last of as many tags as there may be, with so many elements of a type.
+fn many(code: i16, data: Vec<u8>) -> Vec<u8> {
+    let small = |number| (Tag::new(b"ABCD", number), Content::listed(4, vec![0, 1]));
+    let mut items: Vec<(Tag, Content)> = (1..MOST_ENTRIES).map(small).collect();
+    items.push((Tag::new(b"MANY", 1), Content::listed(code, data)));
+    plain_file(&items, Order::DirectoryFirst).bytes()
+}
+
+// Each element takes no longer because of the tags before its own.
+fn many_elements(group: &mut Group, scratch: &Scratch) {
+    let data = [0, 1, 2, 0].repeat(MANY / 4);
+    let file = scratch.write("bools", &many(BOOL, data));
+    let start = Instant::now();
+    let output = Program::plain().run(&[
+        "show".as_ref(),
+        file.as_os_str(),
+        "MANY".as_ref(),
+        "1".as_ref(),
+    ]);
+    let time = start.elapsed();
+    group.input();
+    group.check(time < MOST_TIME, &[], || {
+        format!("{MANY} bools in {time:?}")
+    });
+    let printed = output.stdout_text();
+    let last: Vec<&str> = printed.lines().rev().take(4).collect();
+    let expected = [
+        "4000000: false",
+        " 3999999: true",
+        " 3999998: true",
+        " 3999997: false",
+    ];
+    let fits = last
+        .iter()
+        .zip(expected)
+        .all(|(line, expected)| line.trim() == expected.trim());
+    group.check(fits && output.status == Some(0), &[], || {
+        format!("{last:?}")
+    });
+    group.check(printed.lines().count() == MANY + 2, &[], || {
+        format!("{} lines", printed.lines().count())
+    });
+}
+
+// More numbers and letters than are read at once, shown as few are.
+fn many_numbers(group: &mut Group, scratch: &Scratch) {
+    let letters = b"GATTACA".repeat(1300);
+    let mut unprintable = letters.clone();
+    unprintable[9000] = 0x1B;
+    let shorts = (0..9000_u16).flat_map(u16::to_be_bytes).collect();
+    let files = [
+        many(CHAR, letters),
+        many(CHAR, unprintable),
+        many(SHORT, shorts),
+    ];
+    for bytes in files {
+        let file = scratch.write("numbers", &bytes);
+        let lines = verdict::lines(file.as_os_str().as_bytes(), &bytes);
+        let mut findings = Findings::default();
+        check_shown(&mut findings, &file, &bytes, &lines, Tag::new(b"MANY", 1));
+        findings.report(group, "many numbers", &bytes);
+    }
 }
 
 fn check(file: &Path, bytes: &[u8]) -> Findings {
     let mut findings = Findings::default();
-    let line = verdict::line(file.as_os_str().as_bytes(), bytes);
+    let lines = verdict::lines(file.as_os_str().as_bytes(), bytes);
     let output = Program::plain().run(&["list".as_ref(), file.as_os_str()]);
     let is_refused = !verdict::is_whole(bytes) || has_refused_read(bytes);
-    check_start(&mut findings, "list", &output, &line, is_refused);
+    check_start(&mut findings, "list", &output, &lines, is_refused);
     let listed = match Format::of(bytes) {
         Format::Abif => abif::listed::list(bytes),
         Format::Sff => sff::listed::list(bytes),
         Format::Gtc => gtc::listed::list(bytes),
         Format::Unknown => Vec::new(),
     };
-    check_lines(&mut findings, "list", &output, &listed);
+    check_lines(&mut findings, "list", &output, &lines, &listed);
     if Format::of(bytes) == Format::Abif {
         for tag in tags(bytes) {
-            check_shown(&mut findings, file, bytes, &line, tag);
+            check_shown(&mut findings, file, bytes, &lines, tag);
         }
     }
     findings
 }
 
-// The line comes first, and the status tells of the file and of what was asked for.
-fn check_start(findings: &mut Findings, what: &str, output: &Output, line: &[u8], refused: bool) {
-    let first = output.stdout.split(|&byte| byte == b'\n').next();
-    findings.check(first == Some(line), || {
+// The file's lines come first, and the status tells of the file and of what was asked for.
+fn check_start(findings: &mut Findings, what: &str, output: &Output, lines: &[u8], refused: bool) {
+    findings.check(output.stdout.starts_with(lines), || {
         format!("{what} printed {:?}", output.stdout_text())
     });
     findings.check(output.status == Some(refused.into()), || {
@@ -90,7 +162,7 @@ fn has_refused_read(bytes: &[u8]) -> bool {
     Format::of(bytes) == Format::Sff && (found || walked.is_err())
 }
 
-fn check_shown(findings: &mut Findings, file: &Path, bytes: &[u8], line: &[u8], tag: Tag) {
+fn check_shown(findings: &mut Findings, file: &Path, bytes: &[u8], lines: &[u8], tag: Tag) {
     let name = OsString::from_vec(tag.name.to_be_bytes().to_vec());
     let number = OsString::from(tag.number.to_string());
     let arguments = [OsString::from("show"), file.into(), name, number];
@@ -98,14 +170,22 @@ fn check_shown(findings: &mut Findings, file: &Path, bytes: &[u8], line: &[u8], 
     let refusal = refusal_of(bytes, tag);
     let is_refused = refusal.is_some() || !verdict::is_whole(bytes);
     let what = format!("show {tag:?}");
-    check_start(findings, &what, &output, line, is_refused);
-    check_lines(findings, &what, &output, &abif::listed::show(bytes, tag));
+    check_start(findings, &what, &output, lines, is_refused);
+    let shown = abif::listed::show(bytes, tag);
+    check_lines(findings, &what, &output, lines, &shown);
 }
 
 // The lines behind the file's own.
-fn check_lines(findings: &mut Findings, what: &str, output: &Output, expected: &[Line]) {
+fn check_lines(
+    findings: &mut Findings,
+    what: &str,
+    output: &Output,
+    lines: &[u8],
+    expected: &[Line],
+) {
+    let own = lines.iter().filter(|&&byte| byte == b'\n').count();
     let printed = output.stdout_text();
-    let printed: Vec<&str> = printed.lines().skip(1).collect();
+    let printed: Vec<&str> = printed.lines().skip(own).collect();
     let fault = words::fault(expected, &printed);
     findings.check(fault.is_none(), || {
         format!("{what}: {}", fault.unwrap_or_default())

@@ -3,7 +3,10 @@
 use crate::program::{output, Program};
 use crate::scratch::Scratch;
 use compare::report::Group;
+use compare::sff::draft::{Draft, Read};
+use std::ffi::OsString;
 use std::fs::{self, File, Permissions};
+use std::os::unix::ffi::OsStrExt;
 use std::os::unix::fs::PermissionsExt;
 use std::path::Path;
 use std::process::Command;
@@ -20,14 +23,34 @@ const AS_NOBODY: [&str; 6] = [
 const AS_IS: [&str; 1] = ["timeout"];
 const SECONDS: &str = "10";
 
+/// What is printed, to an output that takes nothing.
+const FULL: [&[&str]; 7] = [
+    &["a.sff"],
+    &["list", "a.sff"],
+    &["."],
+    &["--help"],
+    &["export", "a.sff", "--fasta"],
+    &["export", "long.sff", "--fastq"],
+    &["export", "a.sff", "--fasta", "-o", "/dev/full"],
+];
+
+/// What is longer than the files that may be written.
+const UNFINISHED: [&str; 3] = [
+    "draw a.sff -o new.svg",
+    "draw a.sff -o new.html",
+    "export long.sff --fasta -o new.fasta",
+];
+
 pub fn not_readable(group: &mut Group) {
     let scratch = Scratch::new();
     fill(&scratch);
     closed_to_the_program(group, &scratch);
-    for arguments in [&["a.sff"][..], &["list", "a.sff"], &["."]] {
+    for arguments in FULL {
         full_output(group, scratch.folder(), arguments);
     }
-    unfinished_picture(group, scratch.folder());
+    for arguments in UNFINISHED {
+        unfinished_output(group, scratch.folder(), arguments);
+    }
     let permissions = Permissions::from_mode(0o755);
     // The folder is removed with the others only where it may be read again.
     let _ = fs::set_permissions(scratch.path("closed"), permissions);
@@ -39,6 +62,8 @@ fn fill(scratch: &Scratch) {
     for name in ["a.sff", "b.sff", "closed/c.sff", "d.sff"] {
         scratch.write(name, &bytes);
     }
+    let reads = vec![Read::new(b"read", 0, &[]); 100_000];
+    scratch.write("long.sff", &Draft::new(0, 0, reads, None).bytes());
     for (name, mode) in [("b.sff", 0o000), ("closed", 0o000), ("", 0o755)] {
         let permissions = Permissions::from_mode(mode);
         fs::set_permissions(scratch.path(name), permissions).expect("other permissions");
@@ -64,7 +89,8 @@ fn closed_to_the_program(group: &mut Group, scratch: &Scratch) {
     let expected = "a.sff: SFF whole 88 of 88\n\
                     ./a.sff: SFF whole 88 of 88\n\
                     ./d.sff: SFF whole 88 of 88\n\
-                    6 files: 3 whole, 0 refused, 0 unknown, 3 not readable\n";
+                    ./long.sff: SFF whole 2400032 of 2400032\n\
+                    7 files: 4 whole, 0 refused, 0 unknown, 3 not readable\n";
     let printed = output.stdout_text();
     group.check(printed == expected, &[], || format!("printed {printed:?}"));
     group.check(output.status == Some(2), &[], || {
@@ -84,23 +110,31 @@ fn closed_to_the_program(group: &mut Group, scratch: &Scratch) {
     group.check(fits, &[], || format!("complained {complaint:?}"));
 }
 
-// A picture that cannot be written to its end is no success, and is not left behind.
-fn unfinished_picture(group: &mut Group, folder: &Path) {
+// An output that cannot be written to its end is no success, and is not left behind.
+fn unfinished_output(group: &mut Group, folder: &Path, arguments: &str) {
     let mut command = Command::new("sh");
     command
         .current_dir(folder)
         .env("JTVIEW", Program::plain().path());
-    let limited = "trap '' XFSZ; ulimit -f 1; exec \"$JTVIEW\" draw a.sff -o picture.svg";
-    command.args(["-c", limited]);
+    let limited = format!("trap '' XFSZ; ulimit -f 1; exec \"$JTVIEW\" {arguments}");
+    command.args(["-c", &limited]);
     group.input();
     let output = output(command);
     let is_refused = matches!(&output, Ok(output) if output.status == Some(2));
-    group.check(is_refused, &[], || {
-        format!("an unfinished picture: {output:?}")
-    });
-    let is_left = folder.join("picture.svg").exists();
-    group.check(!is_left, &[], || {
-        "the unfinished picture is left".to_string()
+    group.check(is_refused, &[], || format!("{arguments}: {output:?}"));
+    let told = output.map_or(String::new(), |output| output.stderr_text());
+    group.check(
+        told.starts_with("jtview: new.") && told.lines().count() == 1,
+        &[],
+        || format!("{arguments}: complained {told:?}"),
+    );
+    let entries = fs::read_dir(folder).expect("a folder of this test");
+    let names = entries.flatten().map(|entry| entry.file_name());
+    let left: Vec<OsString> = names
+        .filter(|name| name.as_bytes().starts_with(b"new"))
+        .collect();
+    group.check(left.is_empty(), &[], || {
+        format!("{arguments}: left {left:?}")
     });
 }
 

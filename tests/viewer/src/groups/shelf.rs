@@ -2,8 +2,8 @@
 
 use crate::program::{output, Output, Program};
 use crate::scratch::Scratch;
+use crate::sentences;
 use crate::verdict::{self, Format};
-use compare::refusal::Refusal;
 use compare::report::Group;
 use compare::samples;
 use std::collections::BTreeMap;
@@ -74,7 +74,7 @@ struct Tally {
     whole: usize,
     unknown: usize,
     unreadable: usize,
-    refused: BTreeMap<u64, (usize, Option<Refusal>)>,
+    refused: BTreeMap<u64, usize>,
 }
 
 impl Tally {
@@ -113,12 +113,10 @@ impl Tally {
             return;
         };
         self.lines
-            .extend(verdict::line(path.as_os_str().as_bytes(), &bytes));
-        self.lines.push(b'\n');
+            .extend(verdict::lines(path.as_os_str().as_bytes(), &bytes));
         match verdict::refused(&bytes) {
             Some(it) => {
-                let counted = self.refused.entry(it.refusal as u64).or_default();
-                *counted = (counted.0 + 1, Some(it.refusal));
+                *self.refused.entry(it.refusal as u64).or_default() += 1;
             }
             None if Format::of(&bytes) == Format::Unknown => self.unknown += 1,
             None => self.whole += 1,
@@ -126,14 +124,15 @@ impl Tally {
     }
 
     fn summary(&self) -> String {
-        let refused: usize = self.refused.values().map(|(count, _)| count).sum();
+        let refused: usize = self.refused.values().sum();
         let mut text = format!(
             "{} files: {} whole, {refused} refused, {} unknown, {} not readable\n",
             self.files, self.whole, self.unknown, self.unreadable
         );
-        for (number, (count, refusal)) in &self.refused {
-            let meaning = refusal.map_or("", verdict::meaning);
-            text.push_str(&format!("  refused {number}: {count} ({meaning})\n"));
+        for (&number, &count) in &self.refused {
+            let files = if count == 1 { "file" } else { "files" };
+            let words = sentences::words(number);
+            text.push_str(&format!("  {count} {files} refused {number}: {words}\n"));
         }
         text
     }

@@ -1,6 +1,6 @@
 //! What listing a GTC file must print, by the independent reader and the published Table 3.
 
-use crate::words::{refused, shown, Line};
+use crate::words::{cleaned, refused, Line};
 use compare::gtc::reader::{ids, lookup};
 use compare::little_endian::u32_at;
 use compare::refusal::Refusal;
@@ -13,7 +13,7 @@ pub fn list(bytes: &[u8]) -> Vec<Line> {
         Ok(_) | Err(Refusal::NotThere | Refusal::TagTwice) => {}
         Err(refusal) => {
             return vec![Line::Text(format!(
-                "table of contents {}",
+                "table of contents: {}",
                 refused(refusal)
             ))]
         }
@@ -37,7 +37,7 @@ fn entry_line(bytes: &[u8], id: u16) -> Line {
     let value = match kind {
         "float" => return Line::Single(format!("{id} {name} {kind}"), u32_at(data, 0)),
         "int32" => u32_at(data, 0).to_string(),
-        "string" | "char" => shown(data),
+        "string" | "char" => cleaned(data),
         "block" => format!("{} bytes at {}", data.len(), item.part.start),
         _ => format!(
             "count {}, {} bytes at {}",
@@ -47,6 +47,11 @@ fn entry_line(bytes: &[u8], id: u16) -> Line {
         ),
     };
     Line::Text(format!("{id} {name} {kind} {value}"))
+}
+
+/// The name of an id in Table 3.
+pub fn name_of(id: u16) -> Option<&'static str> {
+    row(id).map(|(name, _)| name)
 }
 
 // The names and types of Table 3; what has several fields is a block.

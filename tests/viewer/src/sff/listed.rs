@@ -1,6 +1,6 @@
 //! What listing an SFF file must print, by the independent reader.
 
-use crate::words::{refused, shown, Line};
+use crate::words::{cleaned, refused, shown_letters, Line};
 use compare::refusal::Refusal;
 use compare::sff::reader::{every_read, header, Header, Read};
 
@@ -10,7 +10,7 @@ const FIXED_LENGTH: usize = 31;
 pub fn list(bytes: &[u8]) -> Vec<Line> {
     let header = match header(bytes) {
         Ok(header) => header,
-        Err(refusal) => return vec![Line::Text(format!("header {}", refused(refusal)))],
+        Err(refusal) => return vec![Line::Text(format!("header: {}", refused(refusal)))],
     };
     let mut lines = header_lines(bytes, &header);
     let mut k = 0;
@@ -35,10 +35,10 @@ fn header_lines(bytes: &[u8], header: &Header) -> Vec<Line> {
         "reads {}, flows {}, key {}, header of {} bytes, {index}",
         header.reads,
         header.flows,
-        shown(key),
+        shown_letters(key),
         header.length,
     );
-    let letters = shown(&bytes[FIXED_LENGTH..key_start]);
+    let letters = shown_letters(&bytes[FIXED_LENGTH..key_start]);
     vec![
         Line::Text(first),
         Line::Text(format!("flow letters {letters}")),
@@ -52,7 +52,7 @@ fn read_line(bytes: &[u8], k: u64, read: Result<Read, Refusal>) -> Line {
         Ok(read) => {
             let [quality_left, quality_right] = read.quality_clip;
             let [adapter_left, adapter_right] = read.adapter_clip;
-            let name = shown(&bytes[read.name]);
+            let name = cleaned(&bytes[read.name]);
             format!(
                 "{k} {} {quality_left} {quality_right} {adapter_left} {adapter_right} {} {} {name}",
                 read.bases, read.first, read.last
