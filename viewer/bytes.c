@@ -7,4 +7,6 @@ const uint8_t *bytes_take(int descriptor, size_t length) {
     return bytes == MAP_FAILED ? NULL : bytes;
 }
 
-void bytes_release(const uint8_t *bytes, size_t length) { munmap((void *)bytes, length); }
+void bytes_release(const uint8_t *bytes, size_t length) {
+    munmap((void *)bytes, length);
+}

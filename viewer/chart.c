@@ -25,7 +25,9 @@ static void spell(struct spelled *spelled, uint64_t tenths, char behind) {
     spelled->text[spelled->length++] = behind;
 }
 
-uint64_t column_tenths(const struct chart *chart, uint64_t column) { return 10 * PLOT_WIDTH * column / chart->points; }
+uint64_t column_tenths(const struct chart *chart, uint64_t column) {
+    return 10 * PLOT_WIDTH * column / chart->points;
+}
 
 static void spell_coordinates(struct chart *chart) {
     bool wide = chart->points > PLOT_WIDTH;
@@ -37,7 +39,9 @@ static void spell_coordinates(struct chart *chart) {
     }
 }
 
-uint64_t first_point(const struct chart *chart, uint64_t row) { return chart->points * row; }
+uint64_t first_point(const struct chart *chart, uint64_t row) {
+    return chart->points * row;
+}
 
 uint64_t last_point(const struct chart *chart, uint64_t row) {
     uint64_t last = first_point(chart, row) + chart->points;
@@ -110,37 +114,34 @@ static void choose_row_scale(struct chart *chart, struct chart_row *row) {
     set_scale(row, bounds.highest > LOWEST_TOP ? bounds.highest : LOWEST_TOP, -bounds.lowest);
 }
 
-/* How far a channel's values lie above and below 0. */
-struct levels {
+/* The levels of a channel, as they are being read. */
+struct channel_levels {
     const struct chart *chart;
     uint64_t channel;
-    struct distances above;
-    struct distances below;
+    struct levels levels;
 };
 
 static void add_to_levels(void *context, uint64_t first, const int64_t *values, uint64_t count) {
-    struct levels *levels = context;
-    uint64_t rows = levels->chart->row_count;
-    uint64_t channels = (uint64_t)levels->chart->run->channel_count;
-    distances_add(&levels->above, values, count);
-    distances_add(&levels->below, values, count);
-    progress_show(rows * channels + rows * levels->channel + first / levels->chart->points, 3 * rows * channels);
+    struct channel_levels *read = context;
+    uint64_t rows = read->chart->row_count;
+    uint64_t channels = (uint64_t)read->chart->run->channel_count;
+    levels_add(&read->levels, values, count);
+    progress_show(rows * channels + rows * read->channel + first / read->chart->points, 3 * rows * channels);
 }
 
 /* Each channel by itself has nearly all of its values on the scale, so that none can lie outside as a whole. */
 static void choose_common_scale(struct chart *chart) {
     const struct run *run = chart->run;
-    struct levels *levels = take(1, sizeof *levels);
-    levels->chart = chart;
+    struct channel_levels *read = take(1, sizeof *read);
     int64_t top = LOWEST_TOP;
     int64_t below = 0;
+    read->chart = chart;
     for (int i = 0; i < run->channel_count; i++) {
-        levels->channel = (uint64_t)i;
-        distances_begin(&levels->above, 1, chart->range.highest);
-        distances_begin(&levels->below, -1, -chart->range.lowest);
-        series_visit(run->file, &run->channels[i], 0, first_point(chart, chart->row_count) + 1, add_to_levels, levels);
-        int64_t up = usual_level(&levels->above);
-        int64_t down = usual_level(&levels->below);
+        read->channel = (uint64_t)i;
+        levels_begin(&read->levels, chart->range);
+        series_visit(run->file, &run->channels[i], 0, first_point(chart, chart->row_count) + 1, add_to_levels, read);
+        int64_t up = usual_level(&read->levels.above, read->levels.count);
+        int64_t down = usual_level(&read->levels.below, read->levels.count);
         top = up > top ? up : top;
         below = down > below ? down : below;
     }
@@ -148,7 +149,7 @@ static void choose_common_scale(struct chart *chart) {
         set_scale(&chart->rows[row], top, below);
     }
     chart->off_scale = chart->range.highest > chart->rows[0].top || chart->range.lowest < chart->rows[0].bottom;
-    free(levels);
+    free(read);
 }
 
 static void choose_scales(struct chart *chart) {
@@ -198,7 +199,9 @@ int row_height_above(const struct chart *chart) {
     return chart->qualified ? QUALITY_HEIGHT + LETTERS_HEIGHT + 8 : LETTERS_HEIGHT;
 }
 
-int lane_height(const struct chart *chart) { return chart->length > 0 ? 24 : 36; }
+int lane_height(const struct chart *chart) {
+    return chart->length > 0 ? 24 : 36;
+}
 
 static int lanes_of(const struct chart *chart, uint64_t row) {
     int lanes = refused_channels(chart->run);

@@ -7,7 +7,6 @@
 #include "scale.h"
 
 enum {
-    USUAL_POINTS = 500, /* in a row; the point behind them ends its lines and starts the next row's */
     PLOT_HEIGHT = 130,
     QUALITY_HEIGHT = 36,
     LETTERS_HEIGHT = 32,
@@ -40,7 +39,7 @@ struct spelled {
 struct chart {
     struct picture *picture;
     const struct run *run;
-    uint64_t points;     /* in a row */
+    uint64_t points;     /* in a row; the point behind them ends its lines and starts the next row's */
     uint64_t length;     /* points of the longest channel */
     uint64_t total_rows; /* of the run, */
     uint64_t row_count;  /* those of them that a picture has at most, */

@@ -12,19 +12,25 @@ struct outside {
     int64_t lowest;
 };
 
-/* The levels that have a number beside them, the most needed first: one that would stand upon another has none. */
-static void draw_levels(struct chart *chart, const struct chart_row *row) {
-    enum { LEVELS = 4, LINE_HEIGHT = 120 };
-    int64_t values[LEVELS] = {row->top, row->bottom, 0, row->top / 2};
-    for (int i = 0; i < LEVELS; i++) {
-        int64_t tenths = row_tenths(row, values[i]);
-        bool free = true;
-        for (int other = 0; other < i; other++) {
-            int64_t apart = tenths - row_tenths(row, values[other]);
-            free = free && (apart >= LINE_HEIGHT || apart <= -LINE_HEIGHT);
+/* Whether a level's number stands upon none of those before it. */
+static bool has_room(const struct chart_row *row, const int64_t values[], int level) {
+    enum { LINE_HEIGHT = 110 };
+    for (int other = 0; other < level; other++) {
+        int64_t apart = row_tenths(row, values[level]) - row_tenths(row, values[other]);
+        if (apart < LINE_HEIGHT && apart > -LINE_HEIGHT) {
+            return false;
         }
+    }
+    return true;
+}
+
+/* The levels, the most needed first: one that has no room for its number has none. */
+static void draw_levels(struct chart *chart, const struct chart_row *row) {
+    int64_t values[] = {row->top, 0, row->bottom, row->top / 2};
+    for (int i = 0; i < (int)(sizeof values / sizeof values[0]); i++) {
+        int64_t tenths = row_tenths(row, values[i]);
         draw_level(chart->picture, tenths);
-        if (free) {
+        if (has_room(row, values, i)) {
             draw_level_number(chart->picture, tenths, values[i]);
         }
     }
@@ -33,7 +39,7 @@ static void draw_levels(struct chart *chart, const struct chart_row *row) {
 static void draw_scale(struct chart *chart, const struct chart_row *row) {
     struct svg *svg = &chart->picture->svg;
     draw_levels(chart, row);
-    svg_markup(svg, "<text class=\"small end\" x=\"-6\" y=\"-9\">signal</text>");
+    svg_markup(svg, "<text class=\"small end\" x=\"-10\" y=\"-9\">signal</text>");
     svg_format(svg, "<rect class=\"frame\" width=\"%d\" height=\"%d\"/>\n", PLOT_WIDTH, PLOT_HEIGHT);
 }
 
@@ -111,11 +117,19 @@ static void draw_values(void *context, uint64_t first, const int64_t *values, ui
     }
 }
 
+/* The values of one pixel after the other. */
 static void add_to_columns(void *context, uint64_t first, const int64_t *values, uint64_t count) {
     struct line *line = context;
-    for (uint64_t i = 0; i < count; i++) {
-        uint64_t column = PLOT_WIDTH * (first - line->first + i) / line->chart->points;
-        line->columns[column] = bounds_with(line->columns[column], &values[i], 1);
+    uint64_t points = line->chart->points;
+    uint64_t from = first - line->first;
+    uint64_t behind = from + count;
+    while (from < behind) {
+        uint64_t column = PLOT_WIDTH * from / points;
+        uint64_t next = ((column + 1) * points + PLOT_WIDTH - 1) / PLOT_WIDTH;
+        uint64_t end = next < behind ? next : behind;
+        line->columns[column] = bounds_with(line->columns[column], values, end - from);
+        values += end - from;
+        from = end;
     }
 }
 
@@ -208,7 +222,8 @@ static void draw_ended_words(struct chart *chart, int channel, struct box box) {
     char base = chart->run->bases[channel];
     char words[96];
     int length = snprintf(words, sizeof words, base != 0 ? "%s, base %c" : "%s", series->tag, base);
-    snprintf(words + length, sizeof words - (size_t)length, ": ends after point %s", with_commas(series->count - 1).text);
+    snprintf(words + length, sizeof words - (size_t)length, ": ends after point %s",
+             with_commas(series->count - 1).text);
     int64_t x = box.x + GAP;
     if (box.x >= ROOM + GAP) {
         x = box.x - ROOM;

@@ -6,6 +6,7 @@
 #include "table.h"
 #include "words.h"
 
+#include <ctype.h>
 #include <stdlib.h>
 #include <string.h>
 #include <strings.h>
@@ -73,6 +74,7 @@ static struct picture *picture_of(const struct file *file, const struct draw_opt
     picture->file = file;
     picture->judgement = judge(file);
     picture->explanation = explain(file, &picture->judgement);
+    picture->explanation.sentences[0] = (char)toupper((unsigned char)picture->explanation.sentences[0]);
     picture->lost = is_lost(file, picture->judgement.format);
     choose_paper(picture, options);
     return picture;

@@ -4,6 +4,9 @@
 
 #include "picture.h"
 
+/* How many points a row has where nothing else is asked for. */
+enum { USUAL_POINTS = 500 };
+
 struct draw_options {
     const char *output;
     bool raw;          /* ABIF: the raw channels */

@@ -35,7 +35,7 @@ static void draw_dye(struct chart *chart, int channel) {
         svg_markup(svg, ", ");
     }
     if (wavelength != INT64_MIN) {
-        svg_number(svg, wavelength);
+        svg_grouped(svg, wavelength);
         svg_markup(svg, " nm, ");
     }
 }
@@ -146,8 +146,8 @@ static void draw_left_out(void *subject, uint64_t index, int64_t y) {
     svg_format(svg,
                "<text class=\"left-out\" data-from=\"%" PRIu64 "\" data-to=\"%" PRIu64 "\" x=\"%d\" y=\"%" PRId64 "\">",
                from, chart->length - 1, PLOT_LEFT + 12, y + 20);
-    svg_format(svg, "Left out: rows %d to %s, points %s to %s.</text>", MOST_ROWS + 1, with_commas(chart->total_rows).text,
-               with_commas(from).text, with_commas(chart->length - 1).text);
+    svg_format(svg, "Left out: rows %d to %s, points %s to %s.</text>", MOST_ROWS + 1,
+               with_commas(chart->total_rows).text, with_commas(from).text, with_commas(chart->length - 1).text);
     svg_format(svg,
                "<text x=\"%d\" y=\"%" PRId64
                "\">A picture has at most %d rows. With --points N a row has N points.</text>\n",
@@ -159,7 +159,9 @@ static void draw_abif_row(void *subject, uint64_t index, int64_t y) {
     draw_row(abif->chart, index, y);
 }
 
-static void add_part(struct abif_picture *abif, const struct series *part) { abif->parts[abif->part_count++] = part; }
+static void add_part(struct abif_picture *abif, const struct series *part) {
+    abif->parts[abif->part_count++] = part;
+}
 
 /* The parts beside the channels. A file of fragments needs none; the number of dyes is told only where it is refused.
  */
@@ -178,9 +180,13 @@ static void collect_parts(struct abif_picture *abif) {
     }
 }
 
-static char *next_note(struct abif_picture *abif) { return abif->notes[abif->note_count++]; }
+static char *next_note(struct abif_picture *abif) {
+    return abif->notes[abif->note_count++];
+}
 
-static void note(struct abif_picture *abif, const char *text) { snprintf(next_note(abif), NOTE_LENGTH, "%s", text); }
+static void note(struct abif_picture *abif, const char *text) {
+    snprintf(next_note(abif), NOTE_LENGTH, "%s", text);
+}
 
 static void note_counts(struct abif_picture *abif, const struct series *left, const struct series *right) {
     snprintf(next_note(abif), NOTE_LENGTH,

@@ -16,7 +16,7 @@ enum {
     GENOTYPES = 46,     /* the classes are the genotypes by their codes */
     UNREAD = GENOTYPES, /* the class of SNPs whose genotypes cannot be read */
     CLASSES,
-    PLOT_SIZE = 600,
+    PLOT_SIZE = 560,
     PIXELS = (PLOT_SIZE + 1) * (PLOT_SIZE + 1),
     PLOT_GAP = 12,
     LEGEND_LEFT = PLOT_LEFT + PLOT_SIZE + 40
@@ -31,7 +31,7 @@ struct scatter {
     jt_item parts[PARTS];
     uint64_t refusal;   /* of all the SNPs' records */
     uint64_t forbidden; /* the records that are refused by themselves */
-    char label[64];     /* what of the SNPs is refused */
+    char label[80];     /* what of the SNPs is refused */
     uint64_t count;
     uint64_t in_class[CLASSES];
     uint8_t ploidy[CLASSES];
@@ -216,8 +216,8 @@ static struct refused refused_snps(struct scatter *scatter) {
     if (scatter->forbidden == 0) {
         return (struct refused){"SNPs", "SNPs", 0, scatter->refusal};
     }
-    snprintf(scatter->label, sizeof scatter->label, "%" PRIu64 " of %" PRIu64 " SNPs", scatter->forbidden,
-             scatter->forbidden + scatter->count);
+    snprintf(scatter->label, sizeof scatter->label, "%s of %s SNPs", with_commas(scatter->forbidden).text,
+             with_commas(scatter->forbidden + scatter->count).text);
     return (struct refused){"SNPs", scatter->label, scatter->forbidden, FORBIDDEN_VALUE};
 }
 

@@ -71,20 +71,11 @@ static bool can_export(struct export *export, const struct run *run) {
            (!fastq || is_writable(export, &run->qualities, "quality", is_exported_quality));
 }
 
-/* The sample's name, where the file has one. */
-static jt_part sample_name(const struct file *file) {
-    jt_part name = jt_abif_text(file->bytes, file->length, tag_name("SMPL"), 1);
-    if (name.refusal != 0) {
-        name = jt_abif_text(file->bytes, file->length, tag_name("SpNm"), 1);
-    }
-    return name;
-}
-
 static void print_header(struct export *export, const struct series *letters) {
     const struct file *file = export->file;
     const char *slash = strrchr(file->path, '/');
     const char *name = slash != NULL ? slash + 1 : file->path;
-    jt_part sample = sample_name(file);
+    jt_part sample = run_sample_name(file);
     fputc(export->options->kind == EXPORT_FASTQ ? '@' : '>', export->out);
     export_word(export, (const uint8_t *)name, strlen(name));
     fprintf(export->out, " %s, %" PRIu64 " %s", letters->tag, letters->count,

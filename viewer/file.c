@@ -33,7 +33,9 @@ static const char *take_file(struct file *file, int descriptor) {
 /* The name of the file that was opened last, as it is shown: no byte takes more than three. */
 static char at_hand[3 * PATH_MAX];
 
-const char *file_at_hand(void) { return at_hand; }
+const char *file_at_hand(void) {
+    return at_hand;
+}
 
 /* A path that is too long to be opened need not be told to its end. */
 static void keep_at_hand(const char *path) {

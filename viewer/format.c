@@ -35,7 +35,9 @@ bool is_whole(const struct judgement *judgement) {
     return judgement->format != FORMAT_UNKNOWN && judgement->verdict.refusal == 0;
 }
 
-enum status status_of(const struct judgement *judgement) { return is_whole(judgement) ? STATUS_WHOLE : STATUS_REFUSED; }
+enum status status_of(const struct judgement *judgement) {
+    return is_whole(judgement) ? STATUS_WHOLE : STATUS_REFUSED;
+}
 
 void print_line_to(FILE *out, const struct file *file, const struct judgement *judgement) {
     const jt_verdict *verdict = &judgement->verdict;

@@ -5,7 +5,6 @@
 #include "table.h"
 #include "words.h"
 
-#include <ctype.h>
 #include <inttypes.h>
 #include <string.h>
 
@@ -20,7 +19,7 @@ enum {
     MEANING_FONT = 18,
     MEANING_HEIGHT = 25,
     HINT_HEIGHT = 34,
-    GAP = 14,
+    GAP = 10,
     EDGE = PICTURE_MARGIN + 20,
     BANNER_WIDTH = PICTURE_WIDTH - 2 * PICTURE_MARGIN
 };
@@ -45,7 +44,9 @@ static size_t line_length(const char *text) {
     return fits;
 }
 
-static const char *behind_line(const char *text, size_t length) { return text + length + (text[length] == ' '); }
+static const char *behind_line(const char *text, size_t length) {
+    return text + length + (text[length] == ' ');
+}
 
 static int meaning_lines(const struct picture *picture) {
     int lines = 0;
@@ -161,10 +162,9 @@ static void draw_place_of_refusal(struct picture *picture) {
     svg_markup(svg, "</text>\n");
 }
 
-/* The sentences below each other, the first with a capital letter. */
+/* The sentences below each other. */
 static int draw_meaning(struct picture *picture, int y) {
     struct svg *svg = &picture->svg;
-    picture->explanation.sentences[0] = (char)toupper((unsigned char)picture->explanation.sentences[0]);
     for (const char *text = picture->explanation.sentences; *text != '\0';) {
         size_t length = line_length(text);
         svg_format(svg, "<text class=\"meaning\" x=\"%d\" y=\"%d\">", EDGE, y);

@@ -22,7 +22,9 @@ static void print_header(const struct file *file, const struct jt_sff_header *he
     putchar('\n');
 }
 
-static void print_clips(uint64_t left, uint64_t right) { printf("  %5" PRIu64 " %5" PRIu64, left, right); }
+static void print_clips(uint64_t left, uint64_t right) {
+    printf("  %5" PRIu64 " %5" PRIu64, left, right);
+}
 
 static void print_refused_read(uint64_t k, uint64_t refusal) {
     printf("%8" PRIu64 "  ", k);

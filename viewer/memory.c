@@ -14,9 +14,13 @@ static void *or_end(void *room) {
     return room;
 }
 
-void *take(size_t count, size_t size) { return or_end(calloc(count > 0 ? count : 1, size)); }
+void *take(size_t count, size_t size) {
+    return or_end(calloc(count > 0 ? count : 1, size));
+}
 
-void *take_unset(size_t count, size_t size) { return take_more(NULL, count > 0 ? count : 1, size); }
+void *take_unset(size_t count, size_t size) {
+    return take_more(NULL, count > 0 ? count : 1, size);
+}
 
 void *take_more(void *old, size_t count, size_t size) {
     if (size != 0 && count > (size_t)-1 / size) {

@@ -12,7 +12,9 @@ const uint8_t *part_of(const struct file *file, uint64_t start, uint64_t length)
     return file->bytes + start;
 }
 
-uint8_t byte_at(const struct file *file, uint64_t place) { return *part_of(file, place, 1); }
+uint8_t byte_at(const struct file *file, uint64_t place) {
+    return *part_of(file, place, 1);
+}
 
 uint16_t big_endian_16(const struct file *file, uint64_t place) {
     return (uint16_t)(byte_at(file, place) << 8 | byte_at(file, place + 1));

@@ -220,7 +220,6 @@ static bool fits(const struct syntax *syntax, struct options *options) {
 }
 
 struct options options_read(const char *command, int count, char *words[]) {
-    enum { USUAL_POINTS = 500 };
     const struct syntax *syntax = syntax_of(command);
     struct options options = {.draw = {.read = 1, .points = USUAL_POINTS}};
     int option = 0;

@@ -14,9 +14,9 @@ enum { PART_HEIGHT = 26, MOST_ROWS = 200 };
 struct picture {
     const struct file *file;
     struct judgement judgement;
-    struct explanation explanation;
-    bool lost;         /* nothing in the file can be found: its header or its table cannot be read */
-    const char *paper; /* as CSS calls it, where the picture is made of pages; else NULL */
+    struct explanation explanation; /* its sentences with a capital letter, since they stand by themselves */
+    bool lost;                      /* nothing in the file can be found: its header or its table cannot be read */
+    const char *paper;              /* as CSS calls it, where the picture is made of pages; else NULL */
     int page_height;
     int64_t pages;
     struct svg svg;

@@ -31,19 +31,28 @@ struct bounds bounds_of_both(struct bounds left, struct bounds right) {
                            left.highest > right.highest ? left.highest : right.highest};
 }
 
-void distances_begin(struct distances *distances, int64_t sign, int64_t furthest) {
-    *distances = (struct distances){.sign = sign, .furthest = furthest};
+static void distances_begin(struct distances *distances, int64_t furthest) {
+    *distances = (struct distances){.furthest = furthest};
     while (furthest >> distances->shift >= BINS) {
         distances->shift++;
     }
 }
 
-void distances_add(struct distances *distances, const int64_t *values, uint64_t count) {
+void levels_begin(struct levels *levels, struct bounds bounds) {
+    levels->count = 0;
+    distances_begin(&levels->above, bounds.highest);
+    distances_begin(&levels->below, -bounds.lowest);
+}
+
+void levels_add(struct levels *levels, const int64_t *values, uint64_t count) {
     for (uint64_t i = 0; i < count; i++) {
-        int64_t distance = distances->sign * values[i];
-        distances->bins[distance < 0 ? 0 : distance >> distances->shift]++;
+        if (values[i] > 0) {
+            levels->above.bins[values[i] >> levels->above.shift]++;
+        } else if (values[i] < 0) {
+            levels->below.bins[-values[i] >> levels->below.shift]++;
+        }
     }
-    distances->count += count;
+    levels->count += count;
 }
 
 /* The first bin, from the highest down, with which more than `few` are counted. */
@@ -57,9 +66,9 @@ static int64_t bin_above_few(const uint64_t bins[BINS], uint64_t few) {
     return bin;
 }
 
-int64_t usual_level(const struct distances *distances) {
+int64_t usual_level(const struct distances *distances, uint64_t count) {
     enum { OUT_OF = 500 };
-    int64_t bin = bin_above_few(distances->bins, distances->count / OUT_OF);
+    int64_t bin = bin_above_few(distances->bins, count / OUT_OF);
     int64_t level = ((bin + 1) << distances->shift) * 3 / 2;
     return level < distances->furthest ? level : distances->furthest;
 }

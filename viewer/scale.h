@@ -19,20 +19,25 @@ struct bounds bounds_of_both(struct bounds left, struct bounds right);
 
 enum { BINS = 4096 };
 
-/* How many values lie at each distance above or below 0, `shift` bits coarser; those on the other side count as 0. */
+/* How many values lie at each distance on one side of 0, `shift` bits coarser; none lies further than `furthest`. */
 struct distances {
-    int64_t sign; /* 1 for above, -1 for below */
     int64_t furthest;
     unsigned shift;
-    uint64_t count;
     uint64_t bins[BINS];
 };
 
-/* No value yet; none will be further than `furthest`. */
-void distances_begin(struct distances *distances, int64_t sign, int64_t furthest);
-void distances_add(struct distances *distances, const int64_t *values, uint64_t count);
+/* How many values there are, and how far they lie above and below 0. */
+struct levels {
+    uint64_t count;
+    struct distances above;
+    struct distances below;
+};
 
-/* A level that all but one in 500 of the values stay below, with room above them, and no more than the furthest. */
-int64_t usual_level(const struct distances *distances);
+/* No value yet, and none to come that lies outside of the bounds, with 0 among them. */
+void levels_begin(struct levels *levels, struct bounds bounds);
+void levels_add(struct levels *levels, const int64_t *values, uint64_t count);
+
+/* A level that all but one in 500 of `count` values stay below, with room above them, and no more than the furthest. */
+int64_t usual_level(const struct distances *distances, uint64_t count);
 
 #endif

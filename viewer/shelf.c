@@ -73,7 +73,9 @@ static void judge_file(struct shelf *shelf, const char *path) {
     file_close(&file);
 }
 
-static int by_bytes(const void *left, const void *right) { return strcmp(*(char *const *)left, *(char *const *)right); }
+static int by_bytes(const void *left, const void *right) {
+    return strcmp(*(char *const *)left, *(char *const *)right);
+}
 
 /* NULL at the end, and, with errno, where the folder cannot be read on. */
 static struct dirent *next_entry(DIR *folder) {

@@ -39,14 +39,18 @@ char *svg_room(struct svg *svg, size_t length) {
     return svg->buffer + svg->used;
 }
 
-void svg_used(struct svg *svg, size_t length) { svg->used += length; }
+void svg_used(struct svg *svg, size_t length) {
+    svg->used += length;
+}
 
 static void append(struct svg *svg, const char *bytes, size_t length) {
     memcpy(svg_room(svg, length), bytes, length);
     svg_used(svg, length);
 }
 
-void svg_markup(struct svg *svg, const char *markup) { append(svg, markup, strlen(markup)); }
+void svg_markup(struct svg *svg, const char *markup) {
+    append(svg, markup, strlen(markup));
+}
 
 void svg_format(struct svg *svg, const char *format, ...) {
     enum { MOST = 2048 };
@@ -57,7 +61,9 @@ void svg_format(struct svg *svg, const char *format, ...) {
     svg_used(svg, length < 0 ? 0 : length < MOST ? (size_t)length : MOST - 1);
 }
 
-static uint64_t magnitude(int64_t number) { return number < 0 ? -(uint64_t)number : (uint64_t)number; }
+static uint64_t magnitude(int64_t number) {
+    return number < 0 ? -(uint64_t)number : (uint64_t)number;
+}
 
 void svg_number(struct svg *svg, int64_t number) {
     char digits[24];
@@ -122,7 +128,9 @@ void svg_text(struct svg *svg, const uint8_t *bytes, size_t length) {
     }
 }
 
-void svg_string(struct svg *svg, const char *string) { svg_text(svg, (const uint8_t *)string, strlen(string)); }
+void svg_string(struct svg *svg, const char *string) {
+    svg_text(svg, (const uint8_t *)string, strlen(string));
+}
 
 enum { THOUSANDTHS = 1000 };
 

@@ -12,7 +12,9 @@ uint64_t gtc_table_refusal(const struct file *file) {
     return refusal == NOT_THERE || refusal == TWICE ? 0 : refusal;
 }
 
-uint32_t gtc_entries(const struct file *file) { return little_endian_32(file, COUNT_PLACE); }
+uint32_t gtc_entries(const struct file *file) {
+    return little_endian_32(file, COUNT_PLACE);
+}
 
 uint16_t gtc_entry_id(const struct file *file, uint32_t entry) {
     return little_endian_16(file, TABLE_PLACE + (uint64_t)ENTRY_LENGTH * (entry - 1));

@@ -74,7 +74,9 @@ void print_text(FILE *out, const uint8_t *bytes, size_t length) {
     }
 }
 
-void print_string(FILE *out, const char *string) { print_text(out, (const uint8_t *)string, strlen(string)); }
+void print_string(FILE *out, const char *string) {
+    print_text(out, (const uint8_t *)string, strlen(string));
+}
 
 struct grouped with_commas(uint64_t number) {
     struct grouped grouped;

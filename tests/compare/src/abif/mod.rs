@@ -6,6 +6,7 @@ mod calls;
 mod counts;
 mod damage;
 mod draft;
+pub mod fragments;
 pub mod generate;
 pub mod library;
 mod listing;

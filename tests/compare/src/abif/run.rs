@@ -179,13 +179,15 @@ fn chars(bytes: &[u8]) -> Content {
     Content::listed(2, bytes.to_vec())
 }
 
-fn shorts(numbers: impl IntoIterator<Item = usize>) -> Content {
+/// An item of shorts.
+pub fn shorts(numbers: impl IntoIterator<Item = usize>) -> Content {
     let data = numbers
         .into_iter()
         .flat_map(|number| (number as i16).to_be_bytes());
     Content::listed(4, data.collect())
 }
 
-fn text(letters: &[u8]) -> Content {
+/// A pString.
+pub fn text(letters: &[u8]) -> Content {
     Content::listed(18, [&[letters.len() as u8], letters].concat())
 }

@@ -1,6 +1,7 @@
 //! The stored ABIF files.
 
 use super::draft::Draft;
+use super::fragments;
 use super::generate::{all_codes, element_size, listed_data, plain_file, Content, Order};
 use super::reader::{Tag, Type};
 use super::run;
@@ -48,6 +49,7 @@ pub fn all() -> Vec<Sample> {
     samples.extend(refused_in_the_header());
     samples.extend(refused_at_an_entry());
     samples.extend(a_run());
+    samples.extend(a_run_of_fragments());
     samples
 }
 
@@ -58,6 +60,16 @@ fn a_run() -> [Sample; 2] {
     [
         ("run.ab1", whole.clone()),
         ("cut-run.ab1", cut(whole, shorter)),
+    ]
+}
+
+// A whole run of fragments, and the same cut in the middle of its fifth dye's channel.
+fn a_run_of_fragments() -> [Sample; 2] {
+    let whole = fragments::fragments().bytes();
+    let shorter = whole.len() - fragments::channel_length() / 2;
+    [
+        ("fragments.fsa", whole.clone()),
+        ("cut-fragments.fsa", cut(whole, shorter)),
     ]
 }
 
