@@ -64,11 +64,6 @@ pub fn grouped(number: i64) -> String {
     [sign, &grouped].concat()
 }
 
-/// Text from outside as it is shown.
-pub fn cleaned(bytes: &[u8]) -> String {
-    String::from_utf8_lossy(&verdict::shown_name(bytes)).into_owned()
-}
-
 /// Whether a text is the expected one, or one that a mark stands in for a piece of.
 pub fn is_or_shortened(found: &str, expected: &str) -> bool {
     let is_shortened = |(before, behind)| {

@@ -2,8 +2,9 @@
 
 use super::contents::{first_number, text_of, Channel, Contents};
 use crate::findings::Findings;
-use crate::picture::{all, cleaned, grouped, is_or_shortened, of_class, pages};
+use crate::picture::{all, grouped, is_or_shortened, of_class, pages};
 use crate::verdict;
+use crate::words::cleaned;
 use crate::xml::Element;
 
 /// Checks the line of each channel that is there, the sample's name and the notes.

@@ -70,7 +70,8 @@ fn others() -> Vec<Vec<Input>> {
     sets
 }
 
-fn check_pages(findings: &mut Findings, root: &Element, paper: Paper) {
+/// The checks of all pages for this paper.
+pub fn check_pages(findings: &mut Findings, root: &Element, paper: Paper) {
     check_paper(findings, root, paper);
     let pages = pages_of(root);
     findings.check(!pages.is_empty(), || "no pages".to_string());
