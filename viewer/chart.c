@@ -224,7 +224,7 @@ const char *channel_colour(const struct run *run, int channel) {
 }
 
 const char *channel_dashes(const struct run *run, int channel) {
-    static const char *const dashes[] = {"none", "6 2", "2 2", "8 2 2 2", "12 3", "1 3", "4 1 1 1"};
+    static const char *const dashes[] = {"none", "6 2", "2 2", "8 2 2 2", "12 3", "3 3", "4 1 1 1"};
     static const char bases[] = "AGTC";
     enum { DASHES = sizeof dashes / sizeof dashes[0] };
     char base = run->bases[channel];
