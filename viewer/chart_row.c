@@ -217,20 +217,21 @@ static void draw_plot(struct chart *chart, uint64_t row) {
 
 /* The words go where there is room: before the box, behind it, or in it. */
 static void draw_ended_words(struct chart *chart, int channel, struct box box) {
-    enum { ROOM = 340, GAP = 10 };
+    enum { GAP = 10, ROOM = 340 };
     const struct series *series = &chart->run->channels[channel];
     char base = chart->run->bases[channel];
     char words[96];
     int length = snprintf(words, sizeof words, base != 0 ? "%s, base %c" : "%s", series->tag, base);
     snprintf(words + length, sizeof words - (size_t)length, ": ends after point %s",
              with_commas(series->count - 1).text);
+    int64_t width = box_words_width(words);
     int64_t x = box.x + GAP;
-    if (box.x >= ROOM + GAP) {
-        x = box.x - ROOM;
-    } else if (box.x + box.width <= PLOT_WIDTH - ROOM - GAP) {
+    if (box.x >= width + GAP) {
+        x = box.x - width - GAP;
+    } else if (box.x + box.width + GAP + width <= PLOT_WIDTH) {
         x = box.x + box.width + GAP;
     }
-    draw_words(chart->picture, "ended-words", words, x, box.y + box.height / 2 + 5, ROOM - GAP);
+    draw_words(chart->picture, "ended-words", words, x, box.y + box.height / 2 + 5, ROOM);
 }
 
 /* From the channel's last point to the row's. */

@@ -38,14 +38,17 @@ struct names {
     int count;
 };
 
-static void say_unread(struct explanation *explanation, const char *before, const struct names *names) {
+/* Says of the names what is the matter with them, in the singular or the plural; of none nothing. */
+static void say_of(struct explanation *explanation, const struct names *names, const char *one, const char *many) {
     char text[MOST_CHANNELS * ITEM_LENGTH] = "";
     size_t used = 0;
     for (int i = 0; i < names->count; i++) {
         const char *between = i == 0 ? "" : i == names->count - 1 ? " and " : ", ";
         used += (size_t)snprintf(text + used, sizeof text - used, "%s%s", between, names->list[i]);
     }
-    say(explanation, "%s%s could not be read.", before, text);
+    if (names->count > 0) {
+        say(explanation, names->count == 1 ? one : many, text);
+    }
 }
 
 static bool is_channel(const struct run *run, const char *item) {
@@ -57,17 +60,26 @@ static bool is_channel(const struct run *run, const char *item) {
     return false;
 }
 
-static struct names unread_channels(const struct run *run) {
+static bool is_unread(uint64_t refusal) {
+    return refusal != 0 && refusal != NOT_THERE;
+}
+
+static bool is_missing(uint64_t refusal) {
+    return refusal == NOT_THERE;
+}
+
+/* The channels whose refusals are of this kind. */
+static struct names channels_that(const struct run *run, bool (*is_so)(uint64_t refusal)) {
     struct names names = {.count = 0};
     for (int i = 0; i < run->channel_count; i++) {
         const struct series *channel = &run->channels[i];
         char *name = names.list[names.count];
-        if (channel->refusal != 0 && run->bases[i] != 0) {
+        if (run->bases[i] != 0) {
             snprintf(name, ITEM_LENGTH, "%c (%s)", run->bases[i], channel->tag);
-        } else if (channel->refusal != 0) {
+        } else {
             snprintf(name, ITEM_LENGTH, "%s", channel->tag);
         }
-        names.count += channel->refusal != 0;
+        names.count += is_so(channel->refusal);
     }
     return names;
 }
@@ -77,18 +89,19 @@ static void say_channels(struct explanation *explanation, const struct file *fil
                          const char *item) {
     struct run run;
     run_read(&run, file, false);
-    struct names unread = unread_channels(&run);
+    struct names unread = channels_that(&run, is_unread);
+    struct names missing = channels_that(&run, is_missing);
     if (verdict->refusal == CUT_SHORT && !is_channel(&run, item)) {
         say(explanation, "%s could not be read.", item);
     }
     if (!has_channels(&run)) {
         return;
     }
-    if (unread.count == 0) {
+    if (refused_channels(&run) == 0) {
         say(explanation, "Every channel could be read.");
-    } else {
-        say_unread(explanation, unread.count == 1 ? "Channel " : "Channels ", &unread);
     }
+    say_of(explanation, &unread, "Channel %s could not be read.", "Channels %s could not be read.");
+    say_of(explanation, &missing, "Channel %s is not in this file.", "Channels %s are not in this file.");
 }
 
 static void name_id(char name[ITEM_LENGTH], uint16_t id) {
@@ -96,30 +109,47 @@ static void name_id(char name[ITEM_LENGTH], uint16_t id) {
     snprintf(name, ITEM_LENGTH, "%s (%u)", row != NULL ? row->name : "unknown", id);
 }
 
+static const uint16_t ARRAYS[] = {1002, 1003, 1004, 1000, 1001};
+
+enum { ARRAY_COUNT = sizeof ARRAYS / sizeof ARRAYS[0] };
+
+static bool is_array(const char *item) {
+    for (int i = 0; i < ARRAY_COUNT; i++) {
+        char name[ITEM_LENGTH];
+        name_id(name, ARRAYS[i]);
+        if (strcmp(name, item) == 0) {
+            return true;
+        }
+    }
+    return false;
+}
+
+/* The arrays whose refusals are of this kind. */
+static struct names arrays_that(const struct file *file, bool (*is_so)(uint64_t refusal)) {
+    struct names names = {.count = 0};
+    for (int i = 0; i < ARRAY_COUNT; i++) {
+        name_id(names.list[names.count], ARRAYS[i]);
+        names.count += is_so(jt_gtc_lookup(file->bytes, file->length, ARRAYS[i]).refusal);
+    }
+    return names;
+}
+
 /* What of a GTC file is there all the same: of the arrays of its SNPs. */
 static void say_arrays(struct explanation *explanation, const struct file *file, const jt_verdict *verdict,
                        const char *item) {
-    static const uint16_t arrays[] = {1002, 1003, 1004, 1000, 1001};
-    enum { ARRAYS = sizeof arrays / sizeof arrays[0] };
-    struct names unread = {.count = 0};
-    bool is_array = false;
-    int missing = 0;
-    for (int i = 0; i < ARRAYS; i++) {
-        uint64_t refusal = jt_gtc_lookup(file->bytes, file->length, arrays[i]).refusal;
-        char *name = unread.list[unread.count];
-        name_id(name, arrays[i]);
-        is_array = is_array || strcmp(name, item) == 0;
-        unread.count += refusal != 0;
-        missing += refusal == NOT_THERE;
-    }
-    if (verdict->refusal == CUT_SHORT && !is_array) {
+    struct names unread = arrays_that(file, is_unread);
+    struct names missing = arrays_that(file, is_missing);
+    if (verdict->refusal == CUT_SHORT && !is_array(item)) {
         say(explanation, "%s could not be read.", item);
     }
-    if (unread.count == 0) {
-        say(explanation, "Every array of the SNPs could be read.");
-    } else if (missing < ARRAYS) {
-        say_unread(explanation, "", &unread);
+    if (missing.count == ARRAY_COUNT) {
+        return;
     }
+    if (unread.count + missing.count == 0) {
+        say(explanation, "Every array of the SNPs could be read.");
+    }
+    say_of(explanation, &unread, "%s could not be read.", "%s could not be read.");
+    say_of(explanation, &missing, "%s is not in this file.", "%s are not in this file.");
 }
 
 /* The entry that judging names, as in "DATA 12" or "Genotypes (1002)". */

@@ -18,6 +18,10 @@ void draw_words(struct picture *picture, const char *class, const char *words, i
     svg_markup(svg, "</text>\n");
 }
 
+int64_t box_words_width(const char *words) {
+    return text_width((const uint8_t *)words, strlen(words), BOX_FONT, PLOT_WIDTH);
+}
+
 void draw_refused(struct picture *picture, struct refused refused, struct box box) {
     struct svg *svg = &picture->svg;
     char words[192];

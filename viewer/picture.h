@@ -37,8 +37,9 @@ struct refused {
 /* A hatched box in its place, with the refusal in it. */
 void draw_refused(struct picture *picture, struct refused refused, struct box box);
 
-/* Words on white, so that they can be read over hatching. They start at `x`. */
+/* Words on white, so that they can be read over hatching, from `x` on; and how wide they are at most. */
 void draw_words(struct picture *picture, const char *class, const char *words, int64_t x, int64_t y, unsigned room);
+int64_t box_words_width(const char *words);
 
 /* A line across a plot, so many tenths of a pixel below its top, with its number at the left where there is room. */
 void draw_level(struct picture *picture, int64_t tenths);

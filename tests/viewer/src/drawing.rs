@@ -1,11 +1,11 @@
 //! Drawing a file, and the checks of all that comes of it.
 
 use crate::findings::Findings;
-use crate::picture::{self, cleaned, is_or_shortened, of_class, pages};
+use crate::picture::{self, is_or_shortened, of_class, pages};
 use crate::program::{Output, Program};
 use crate::scratch::Scratch;
-use crate::sentences;
 use crate::verdict::{self, Format};
+use crate::words::cleaned;
 use crate::xml::Element;
 use crate::{abif, gtc, sff, workers, xml};
 use compare::report::Group;
@@ -26,13 +26,15 @@ pub struct Paper {
 }
 
 pub const PAPERS: [Paper; 4] = [
-    Paper::new("A4", false),
+    Paper::A4,
     Paper::new("A4", true),
     Paper::new("Letter", false),
     Paper::new("Letter", true),
 ];
 
 impl Paper {
+    pub const A4: Paper = Paper::new("A4", false);
+
     const fn new(name: &'static str, landscape: bool) -> Paper {
         Paper { name, landscape }
     }
@@ -178,7 +180,8 @@ pub fn check_drawn(findings: &mut Findings, drawn: &Drawn, file: &Path, bytes: &
         return findings.check(false, || format!("no picture, {output:?}"));
     };
     let is_asked_refused = check_picture(findings, picture, file, bytes, wish);
-    findings.check(output.stdout == lines(file, bytes), || {
+    let lines = verdict::lines(file.as_os_str().as_bytes(), bytes);
+    findings.check(output.stdout == lines, || {
         format!("printed {:?}", output.stdout_text())
     });
     findings.check(output.stderr.is_empty(), || {
@@ -188,16 +191,6 @@ pub fn check_drawn(findings: &mut Findings, drawn: &Drawn, file: &Path, bytes: &
     findings.check(output.status == Some(expected), || {
         format!("status {:?}, expected {expected}", output.status)
     });
-}
-
-// The file's line, and under it what there is to say.
-fn lines(file: &Path, bytes: &[u8]) -> Vec<u8> {
-    let line = verdict::line(file.as_os_str().as_bytes(), bytes);
-    let below = sentences::explanation(bytes).map(|told| match told.headline {
-        Some(headline) => format!("  {headline}: {}\n", told.sentences),
-        None => format!("  {}\n", told.sentences),
-    });
-    [&line, &b"\n"[..], below.unwrap_or_default().as_bytes()].concat()
 }
 
 /// The picture's root, or what is not well-formed.
@@ -265,7 +258,13 @@ fn check_sizes(findings: &mut Findings, root: &Element) {
 
 // Nothing is drawn of a file that is of no format.
 fn check_unknown(findings: &mut Findings, root: &Element, bytes: &[u8]) -> bool {
-    picture::check_frame(findings, root, bytes, &picture::Parts::new(), str::to_string);
+    picture::check_frame(
+        findings,
+        root,
+        bytes,
+        &picture::Parts::new(),
+        str::to_string,
+    );
     let drawn = [
         "row", "trace", "letter", "quality", "flow", "clipped", "snps",
     ];

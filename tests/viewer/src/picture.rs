@@ -64,11 +64,6 @@ pub fn grouped(number: i64) -> String {
     [sign, &grouped].concat()
 }
 
-/// Text from outside as it is shown.
-pub fn cleaned(bytes: &[u8]) -> String {
-    String::from_utf8_lossy(&verdict::shown_name(bytes)).into_owned()
-}
-
 /// Whether a text is the expected one, or one that a mark stands in for a piece of.
 pub fn is_or_shortened(found: &str, expected: &str) -> bool {
     let is_shortened = |(before, behind)| {
@@ -184,7 +179,8 @@ fn check_root(findings: &mut Findings, root: &Element, bytes: &[u8]) {
     });
 }
 
-// Boxes of a size, and nothing else, are hatched, by a pattern that is there.
+// Boxes of a size, and nothing else, are hatched, by a pattern that is there; a channel's end may be
+// too short for a size.
 fn check_hatching(findings: &mut Findings, root: &Element, is_used: bool) {
     for element in all(root) {
         let mut values = element.attributes.iter().map(|(_, value)| value.as_str());
@@ -194,10 +190,11 @@ fn check_hatching(findings: &mut Findings, root: &Element, is_used: bool) {
             continue;
         }
         let size = |name| number(element, name).unwrap_or(0.0);
+        let is_wide = size("width") > 0.0 || has_class(element, "ended");
         let is_sound = is_box
             && element.name == "rect"
             && element.attribute("fill") == Some(HATCHING)
-            && size("width") > 0.0
+            && is_wide
             && size("height") > 0.0;
         findings.check(is_sound, || format!("the hatched box {element:?}"));
     }

@@ -69,7 +69,8 @@ impl Called {
             let length = traced_length(channels, letter);
             let place = usize::try_from(place).unwrap_or(NOWHERE);
             let row = row_of(place, length, range.points);
-            if place < range.length && row >= range.rows() {
+            let is_left_out = range.left_out().is_some() && place < range.length;
+            if is_left_out && row >= range.rows() {
                 continue;
             }
             if place >= length {

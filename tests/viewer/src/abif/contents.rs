@@ -85,7 +85,8 @@ impl Contents {
 
     fn add_part(&mut self, name: String, numbers: &Numbers) {
         let refusal = numbers.as_ref().err();
-        self.parts.extend(refusal.map(|&refusal| part(name, refusal)));
+        self.parts
+            .extend(refusal.map(|&refusal| part(name, refusal)));
     }
 
     // That the number of dyes is not there is no fault of a file.
@@ -130,7 +131,8 @@ impl Contents {
             .fold((0, 0), |it, value| (value.min(it.0), value.max(it.1)));
         let is_flat = |row: &usize| {
             let mut channels = self.channels.iter();
-            channels.all(|channel| 50 * spread(self.range.values_in_row(channel, *row)) <= most - least)
+            channels
+                .all(|channel| 50 * spread(self.range.values_in_row(channel, *row)) <= most - least)
         };
         let rows = self.range.rows();
         let flat = (0..rows).take_while(is_flat).count();
@@ -230,7 +232,9 @@ fn base_order(order: &Numbers) -> Option<[char; 4]> {
     let order = order.as_ref().ok().filter(|order| order.len() == 4)?;
     let mut bases = [' '; 4];
     for base in "ACGT".chars() {
-        let place = order.iter().position(|&letter| letter == i64::from(base as u32))?;
+        let place = order
+            .iter()
+            .position(|&letter| letter == i64::from(base as u32))?;
         bases[place] = base;
     }
     Some(bases)

@@ -4,23 +4,113 @@ use compare::abif::generate::{plain_file, Content, Order};
 use compare::abif::reader::Tag;
 use compare::random::Random;
 
-type Items = Vec<(Tag, Content)>;
+pub type Items = Vec<(Tag, Content)>;
 
 const SPACING: usize = 9;
 
 /// Called bases in every way that the rules tell apart: sure, unsure, small, and no letters at all.
 const LETTERS: &[u8] = b"GATCNRYSWKMBDHVgatcn-*G\x01A\xFF<&C";
 
-/// Runs to be cut: the directory before and behind the data, one row and two, and raw data alone.
+/// Runs to be cut: the directory before and behind the data, one row and two, raw data alone, and
+/// fragments of five dyes.
 pub fn runs() -> Vec<Vec<u8>> {
     vec![
         run([60, 84, 41, 72], Order::DirectoryFirst),
         run([75, 60, 66, 60], Order::DirectoryLast),
-        run([620, 700, 60, 601], Order::DirectoryFirst),
+        run([520, 600, 60, 501], Order::DirectoryFirst),
         raw_run(Order::DirectoryFirst),
         second_calls(),
         wide_calls(),
+        Fragments::new(5, false, 60, 90).bytes(Order::DirectoryFirst),
     ]
+}
+
+/// A run of fragments before it is written out.
+pub struct Fragments {
+    pub items: Items,
+}
+
+impl Fragments {
+    /// Channels of so many dyes and points, flat but for noise at the front, the last one shorter.
+    pub fn new(dyes: usize, raw: bool, front: usize, length: usize) -> Fragments {
+        let mut random = Random::new(78);
+        let mut items = vec![dye_count(dyes as i16), string(b"SpNm", 1, b"ladder")];
+        for dye in 1..=dyes {
+            let name = format!("dye {dye}");
+            items.push(string(b"DyeN", dye as i32, name.as_bytes()));
+            items.push((
+                Tag::new(b"DyeW", dye as i32),
+                shorts([500 + 30 * dye as i16]),
+            ));
+            let length = if dye == dyes { length - 7 } else { length };
+            let points = fragment_points(&mut random, front, length);
+            items.push((dye_channel(dye as i32, raw), shorts(points)));
+        }
+        Fragments { items }
+    }
+
+    pub fn bytes(&self, order: Order) -> Vec<u8> {
+        plain_file(&self.items, order).bytes()
+    }
+}
+
+/// The tag of a dye's channel.
+pub fn dye_channel(dye: i32, raw: bool) -> Tag {
+    let number = match (raw, dye) {
+        (true, 1..=4) => dye,
+        (false, 1..=4) => 8 + dye,
+        (true, _) => 100 + dye,
+        (false, _) => 200 + dye,
+    };
+    Tag::new(b"DATA", number)
+}
+
+pub fn dye_count(count: i16) -> (Tag, Content) {
+    (Tag::new(b"Dye#", 1), shorts([count]))
+}
+
+pub fn string(name: &[u8; 4], number: i32, text: &[u8]) -> (Tag, Content) {
+    let counted = [&[text.len() as u8], text].concat();
+    (Tag::new(name, number), Content::listed(18, counted))
+}
+
+pub fn shorts(numbers: impl IntoIterator<Item = i16>) -> Content {
+    let data = numbers.into_iter().flat_map(i16::to_be_bytes);
+    Content::listed(4, data.collect())
+}
+
+// Peaks of many heights behind the front, some of them below nought.
+fn fragment_points(random: &mut Random, front: usize, length: usize) -> Vec<i16> {
+    let mut points: Vec<i16> = (0..length).map(|_| random.below(21) as i16 - 8).collect();
+    let mut place = front;
+    while place < length {
+        let height = random.pick(&[-300, 90, 400, 1500, 6000]);
+        for (point, share) in points[place..].iter_mut().zip([1, 3, 8, 3, 1]) {
+            *point += height * share / 8;
+        }
+        place += random.between(9, 160);
+    }
+    points
+}
+
+/// A run of four channels of the same length, with these letters at these places, all of them sure.
+pub fn lettered(length: usize, places: &[i16]) -> Vec<u8> {
+    let mut random = Random::new(79);
+    let letters = b"GATC".iter().copied().cycle().take(places.len());
+    let qualities = (0..places.len()).map(|index| (index % 50) as u8);
+    let mut items = vec![
+        (Tag::new(b"FWO_", 1), Content::listed(2, b"GATC".to_vec())),
+        (Tag::new(b"PBAS", 1), Content::listed(2, letters.collect())),
+        (Tag::new(b"PLOC", 1), shorts(places.iter().copied())),
+        (
+            Tag::new(b"PCON", 1),
+            Content::listed(2, qualities.collect()),
+        ),
+    ];
+    for number in 9..=12 {
+        items.push((Tag::new(b"DATA", number), channel(&mut random, length)));
+    }
+    plain_file(&items, Order::DirectoryFirst).bytes()
 }
 
 /// A run whose channels have these lengths, with raw data too.
@@ -127,8 +217,7 @@ fn raw_channels(random: &mut Random, lengths: [usize; 4]) -> Items {
 
 // Some values lie below nought.
 fn channel(random: &mut Random, length: usize) -> Content {
-    let value = |_| (random.below(1600) as i16 - 100).to_be_bytes();
-    Content::listed(4, (0..length).flat_map(value).collect())
+    shorts((0..length).map(|_| random.below(1600) as i16 - 100))
 }
 
 // Bases over all of the longest channel, the last places past the end of one or of all.
@@ -138,15 +227,15 @@ fn called(random: &mut Random, number: i32, lengths: [usize; 4]) -> Items {
         .step_by(SPACING)
         .map(|place| place as i16)
         .collect();
-    places.extend([-1, 600, longest as i16 - 1, longest as i16]);
+    places.extend([-1, 500, longest as i16 - 1, longest as i16]);
     let letters: Vec<u8> = LETTERS.iter().copied().cycle().take(places.len()).collect();
     let qualities = places.iter().map(|_| random.between(0, 60) as u8);
     let mut qualities: Vec<u8> = qualities.collect();
     qualities[1] = 0xFF;
-    let places = places.into_iter().flat_map(i16::to_be_bytes).collect();
+    qualities[2] = 0;
     vec![
         (Tag::new(b"PBAS", number), Content::listed(2, letters)),
-        (Tag::new(b"PLOC", number), Content::listed(4, places)),
+        (Tag::new(b"PLOC", number), shorts(places)),
         (Tag::new(b"PCON", number), Content::listed(2, qualities)),
     ]
 }

@@ -68,8 +68,7 @@ impl Lettered<'_> {
     }
 
     fn stands_over(&self, element: &Element, base: &Base) -> bool {
-        number::<f64>(element, "x")
-            .is_some_and(|x| (x - self.place(base)).abs() <= MIDDLE_ROUNDING)
+        number::<f64>(element, "x").is_some_and(|x| (x - self.place(base)).abs() <= MIDDLE_ROUNDING)
     }
 
     fn check_letters(&self, findings: &mut Findings, expected: &[&Base]) {
@@ -83,7 +82,10 @@ impl Lettered<'_> {
                     && shows(&letter.words, base.letter)
             });
         findings.check(fits, || {
-            format!("row {}: letters {letters:?} for {expected:?}", self.row.index)
+            format!(
+                "row {}: letters {letters:?} for {expected:?}",
+                self.row.index
+            )
         });
     }
 

@@ -34,7 +34,10 @@ pub fn check_lines(findings: &mut Findings, row: &Row, contents: &Contents) {
         .collect();
     drawn.sort_by_key(|(part, _)| expected.iter().position(|(other, _)| other == part));
     let fits = drawn.len() == expected.len()
-        && drawn.iter().zip(&expected).all(|(one, other)| one.0 == other.0);
+        && drawn
+            .iter()
+            .zip(&expected)
+            .all(|(one, other)| one.0 == other.0);
     findings.check(fits, || {
         let parts = |(part, _): &(&str, Vec<Point>)| part.to_string();
         let expected: Vec<String> = expected.iter().map(parts).collect();

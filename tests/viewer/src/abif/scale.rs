@@ -60,7 +60,10 @@ fn bounds(values: impl Iterator<Item = i64>) -> (f64, f64) {
 // few that lie far off is allowed.
 fn check_one_scale(findings: &mut Findings, rows: &[Row], contents: &Contents) {
     let (least, most) = bounds(contents.values_in_range());
-    let scales: Vec<Scale> = rows.iter().filter_map(|row| Scale::of(row.element)).collect();
+    let scales: Vec<Scale> = rows
+        .iter()
+        .filter_map(|row| Scale::of(row.element))
+        .collect();
     for scale in &scales {
         let widest = SMALLEST_SCALE.max(WIDEST_SCALE * (most - least));
         let is_one = scale.top == scales[0].top && scale.bottom == scales[0].bottom;

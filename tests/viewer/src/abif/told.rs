@@ -2,8 +2,9 @@
 
 use super::contents::{first_number, text_of, Channel, Contents};
 use crate::findings::Findings;
-use crate::picture::{all, cleaned, grouped, is_or_shortened, of_class, pages};
+use crate::picture::{all, grouped, is_or_shortened, of_class, pages};
 use crate::verdict;
+use crate::words::cleaned;
 use crate::xml::Element;
 
 /// Checks the line of each channel that is there, the sample's name and the notes.
@@ -28,8 +29,11 @@ fn check_channel(
     channel: &Channel,
 ) {
     let start = format!("{} ", channel.part);
-    let mut lines: Vec<&&str> = texts.iter().filter(|text| text.starts_with(&start)).collect();
-    lines.retain(|line| line.contains(" points") || line.contains('…'));
+    let mut lines: Vec<&&str> = texts
+        .iter()
+        .filter(|text| text.starts_with(&start))
+        .collect();
+    lines.retain(|line| line.contains(" point") || line.contains('…'));
     let expected = channel.values.as_ref().ok().map(|values| {
         let mut line = channel.part.clone();
         let facts = facts(bytes, raw, channel, values.len());
@@ -57,7 +61,10 @@ fn facts(bytes: &[u8], raw: bool, channel: &Channel, count: usize) -> Vec<String
         dye.map(|dye| format!("dye {}", cleaned(dye))),
         wave_length.map(|length| format!("{} nm", grouped(length))),
         Some(kind.to_string()),
-        Some(format!("{} points", grouped(count as i64))),
+        Some(match count {
+            1 => "1 point".to_string(),
+            count => format!("{} points", grouped(count as i64)),
+        }),
         is_refused.then(|| "file refused".to_string()),
     ];
     facts.into_iter().flatten().collect()
@@ -93,7 +100,9 @@ fn check_notes(findings: &mut Findings, texts: &[&str], contents: &Contents) {
         "Letters not shown, because their trace cannot be read at their place: {}.",
         grouped(contents.hidden as i64)
     );
-    let mut told = texts.iter().filter(|text| text.starts_with("Letters not shown"));
+    let mut told = texts
+        .iter()
+        .filter(|text| text.starts_with("Letters not shown"));
     let fits = match told.next() {
         None => contents.hidden == 0,
         Some(told) => contents.hidden > 0 && **told == hidden,

@@ -1,17 +1,19 @@
 //! Pictures that say something wrong, which the checks must catch.
 
-use crate::drawing::{check_picture, draw, PLAIN};
+use super::pages::check_pages;
+use crate::abif::files::{run, shorts, Fragments};
+use crate::drawing::{check_picture, draw, read, Paper, Wish, PLAIN};
 use crate::findings::Findings;
 use crate::program::Program;
 use crate::scratch::Scratch;
+use compare::abif::generate::{Content, Order};
+use compare::abif::reader::Tag;
 use compare::report::Group;
-use std::fs;
-use std::path::PathBuf;
 
 /// A way to break a picture; None where there is nothing to break.
 type Break = fn(&str) -> Option<String>;
 
-const ABIF: [(&str, Break); 18] = [
+const ABIF: [(&str, Break); 22] = [
     ("a line for a refused channel", |text| {
         let line = "<polyline class=\"trace\" data-part=\"DATA 12\" points=\"0,1 2,1\"/>";
         before(text, "<polyline", line)
@@ -60,7 +62,19 @@ const ABIF: [(&str, Break); 18] = [
         replaced(text, "data-value=\"", "data-value=\"1")
     }),
     ("no word in the rows that the file is refused", |text| {
-        Some(text.replace("class=\"file-refused\"", "class=\"other\"")).filter(|it| it != text)
+        Some(text.replace("class=\"file-refused", "class=\"other")).filter(|it| it != text)
+    }),
+    ("a box with other words", |text| {
+        replaced(text, "missing: the file ends too soon", "of another kind")
+    }),
+    ("a channel's line that does not say it", |text| {
+        replaced(text, " points, file refused", " points")
+    }),
+    ("another number of hidden letters", |text| {
+        replaced(text, "at their place: ", "at their place: 1")
+    }),
+    ("another sample", |text| {
+        replaced(text, "; sample ", "; sample x")
     }),
     ("another scale", |text| {
         replaced(text, "data-top=\"", "data-top=\"1")
@@ -77,9 +91,22 @@ const ABIF: [(&str, Break); 18] = [
     }),
 ];
 
-const ALL: [(&str, Break); 6] = [
+const ALL: [(&str, Break); 9] = [
     ("another number in the banner", |text| {
-        replaced(text, "REFUSED 1", "REFUSED 2")
+        replaced(text, ">refused 1 at", ">refused 2 at")
+    }),
+    ("another headline", |text| {
+        replaced(text, "REFUSED: NOT COMPLETE", "REFUSED: DAMAGED")
+    }),
+    ("another meaning", |text| {
+        let from = text.find("class=\"meaning\"")?;
+        let rest = replaced(&text[from..], "This file", "That file")?;
+        Some([&text[..from], &rest].concat())
+    }),
+    ("another name", |text| {
+        let from = text.find("class=\"title\"")?;
+        let rest = replaced(&text[from..], ">cut-", ">")?;
+        Some([&text[..from], &rest].concat())
     }),
     ("no banner", |text| {
         replaced(text, "class=\"verdict\"", "class=\"other\"")
@@ -98,6 +125,89 @@ const ALL: [(&str, Break); 6] = [
         replaced(text, "fill=\"url(#hatch)\"", "fill=\"none\"")
     }),
     ("an ampersand", |text| replaced(text, "</svg>", "&</svg>")),
+];
+
+/// A run whose channels end one after the other, and letters whose qualities are nought and less.
+const ENDS: [(&str, Break); 7] = [
+    ("no box behind a channel's end", |text| {
+        without(text, "<rect class=\"ended\"", "/>")
+    }),
+    ("a box behind another point", |text| {
+        let from = text.find("class=\"ended\"")?;
+        let rest = replaced(&text[from..], "data-count=\"", "data-count=\"1")?;
+        Some([&text[..from], &rest].concat())
+    }),
+    ("no words at a channel's end", |text| {
+        without(text, "<text class=\"ended-words\"", "</text>")
+    }),
+    ("no mark of a quality of nought", |text| {
+        without(text, "<text class=\"no-quality\"", "</text>")
+    }),
+    ("a bar for a quality of nought", |text| {
+        let mark = "<text class=\"no-quality\"";
+        let bar = "<rect class=\"quality\" data-base=\"3\" data-value=\"0\" x=\"15\" y=\"-32\" \
+                   width=\"6\" height=\"0\"/>";
+        before(text, mark, bar)
+    }),
+    ("a row that starts elsewhere", |text| {
+        replaced(text, "data-first=\"500\"", "data-first=\"501\"")
+    }),
+    ("a row of other points", |text| {
+        replaced(text, "data-points=\"500\"", "data-points=\"600\"")
+    }),
+];
+
+/// Fragments whose fifth channel is refused.
+const FRAGMENTS: [(&str, Break); 5] = [
+    ("no box for DATA 105", |text| {
+        without_boxes(text, "DATA 105")
+    }),
+    ("nothing told of the front", |text| {
+        without(text, "<text class=\"front\"", "</text>")
+    }),
+    ("a front that is higher than told", |text| {
+        replaced(text, "data-highest=\"", "data-highest=\"1")
+    }),
+    ("a shorter front", |text| {
+        replaced(text, "data-last=\"999\"", "data-last=\"499\"")
+    }),
+    ("nothing told of the scales", |text| {
+        replaced(text, "scale of its own", "scale")
+    }),
+];
+
+/// Rows of columns of several points.
+const COLUMNS: [(&str, Break); 2] = [
+    ("a lost peak", |text| without_peak(text)),
+    ("a line of one point less", |text| shorter_line(text)),
+];
+
+const PAGES: [(&str, Break); 7] = [
+    ("a page without the verdict", |text| {
+        last_replaced(text, "class=\"verdict", "class=\"other")
+    }),
+    ("a page without the name", |text| {
+        last_replaced(text, "class=\"title\"", "class=\"other\"")
+    }),
+    ("a page without its number", |text| {
+        last_replaced(text, "class=\"page-number", "class=\"other")
+    }),
+    ("a page of another number", |text| {
+        last_replaced(text, "data-page=\"", "data-page=\"1")
+    }),
+    ("a row below the page", |text| {
+        let from = text.rfind("<g class=\"row\"")?;
+        let rest = replaced(&text[from..], "translate(92,", "translate(92,9")?;
+        Some([&text[..from], &rest].concat())
+    }),
+    ("no box in the last row", |text| {
+        let from = text.rfind("<rect class=\"refused\"")?;
+        let rest = without(&text[from..], "<rect class=\"refused\"", "/>")?;
+        Some([&text[..from], &rest].concat())
+    }),
+    ("pages for other paper", |text| {
+        replaced(text, "size:A4", "size:Letter")
+    }),
 ];
 
 const SFF: [(&str, Break); 6] = [
@@ -141,48 +251,113 @@ const GTC: [(&str, Break); 4] = [
 ];
 
 pub fn broken_pictures(group: &mut Group) {
-    break_all(group, "cut-run.ab1", ABIF.iter().chain(&ALL));
-    break_all(group, "run.sff", SFF.iter());
-    break_all(group, "cut-run.gtc", GTC.iter().chain(&ALL));
+    let cut_run = Subject::sample("cut-run.ab1");
+    cut_run.break_all(group, ABIF.iter().chain(&ALL));
+    cut_run.on(Paper::A4).break_all(group, PAGES.iter());
+    Subject::sample("run.sff").break_all(group, SFF.iter());
+    Subject::sample("cut-run.gtc").break_all(group, GTC.iter().chain(&ALL));
+    let ends = run([700, 400, 90, 900], Order::DirectoryFirst);
+    Subject::new("ends.ab1", ends).break_all(group, ENDS.iter());
+    Subject::new("fragments.fsa", fragments()).break_all(group, FRAGMENTS.iter());
+    let mut columns = Subject::new("columns.ab1", run([3100; 4], Order::DirectoryLast));
+    columns.wish = Wish::points(2000);
+    columns.break_all(group, COLUMNS.iter());
 }
 
-fn break_all<'a>(
-    group: &mut Group,
-    name: &str,
-    breaks: impl Iterator<Item = &'a (&'static str, Break)>,
-) {
-    let scratch = Scratch::new();
-    let file = PathBuf::from("samples").join(name);
-    let bytes = fs::read(crate::program::repository().join(&file)).unwrap_or_default();
-    let drawn = draw(
-        &Program::plain(),
-        &file,
-        &scratch.path("picture.svg"),
-        PLAIN,
-    );
-    let picture = drawn.picture.unwrap_or_default();
-    let sound = String::from_utf8_lossy(&picture).into_owned();
-    let faults = |text: &str| {
+// The fifth channel is of numbers that are not whole.
+fn fragments() -> Vec<u8> {
+    let mut run = Fragments::new(4, true, 1100, 2000);
+    let tag = Tag::new(b"DATA", 105);
+    run.items.push((tag, Content::listed(7, vec![0; 400])));
+    run.items.push((Tag::new(b"DyeW", 5), shorts([655])));
+    run.bytes(Order::DirectoryFirst)
+}
+
+/// A file whose picture is broken.
+struct Subject {
+    name: &'static str,
+    bytes: Vec<u8>,
+    wish: Wish,
+}
+
+impl Subject {
+    fn new(name: &'static str, bytes: Vec<u8>) -> Subject {
+        Subject {
+            name,
+            bytes,
+            wish: PLAIN,
+        }
+    }
+
+    fn sample(name: &'static str) -> Subject {
+        let samples = compare::samples::all().into_iter();
+        let mut samples = samples.filter(|(other, _)| *other == name);
+        let bytes = samples.next().map_or(Vec::new(), |(_, bytes)| bytes);
+        Subject::new(name, bytes)
+    }
+
+    fn on(&self, paper: Paper) -> Subject {
+        Subject {
+            wish: Wish::pages(paper),
+            bytes: self.bytes.clone(),
+            ..*self
+        }
+    }
+
+    fn break_all<'a>(
+        &self,
+        group: &mut Group,
+        breaks: impl Iterator<Item = &'a (&'static str, Break)>,
+    ) {
+        let (name, bytes) = (self.name, &self.bytes);
+        let sound = self.sound();
+        let faults = self.faults(&sound);
+        group.check(faults.is_empty(), bytes, || format!("{name}: {faults:?}"));
+        for (what, change) in breaks {
+            group.input();
+            let broken = change(&sound);
+            group.check(broken.is_some(), bytes, || {
+                format!("{name} has nothing for: {what}")
+            });
+            let is_caught = broken.is_none_or(|broken| !self.faults(&broken).is_empty());
+            group.check(is_caught, bytes, || format!("{name}: not caught: {what}"));
+        }
+    }
+
+    // The picture as it is drawn.
+    fn sound(&self) -> String {
+        let scratch = Scratch::new();
+        let file = scratch.write(self.name, &self.bytes);
+        let picture = scratch.path(format!("picture.{}", self.wish.ending()));
+        let drawn = draw(&Program::plain(), &file, &picture, self.wish);
+        String::from_utf8_lossy(&drawn.picture.unwrap_or_default()).into_owned()
+    }
+
+    fn faults(&self, text: &str) -> Vec<String> {
         let mut findings = Findings::default();
-        check_picture(&mut findings, text.as_bytes(), &file, &bytes, PLAIN);
+        let file = self.name.as_ref();
+        check_picture(&mut findings, text.as_bytes(), file, &self.bytes, self.wish);
+        if let (Some(paper), Ok(root)) = (self.wish.paper, read(text.as_bytes(), self.wish)) {
+            check_pages(&mut findings, &root, paper);
+        }
         findings.faults().to_vec()
-    };
-    group.check(faults(&sound).is_empty(), &bytes, || {
-        format!("{name}: {:?}", faults(&sound))
-    });
-    for (what, change) in breaks {
-        group.input();
-        let broken = change(&sound);
-        group.check(broken.is_some(), &bytes, || {
-            format!("{name} has nothing for: {what}")
-        });
-        let is_caught = broken.is_none_or(|broken| !faults(&broken).is_empty());
-        group.check(is_caught, &bytes, || format!("{name}: not caught: {what}"));
     }
 }
 
 fn replaced(text: &str, from: &str, to: &str) -> Option<String> {
     text.contains(from).then(|| text.replacen(from, to, 1))
+}
+
+fn last_replaced(text: &str, from: &str, to: &str) -> Option<String> {
+    let place = text.rfind(from)?;
+    Some([&text[..place], to, &text[place + from.len()..]].concat())
+}
+
+// The picture without the first element that begins so, up to its end.
+fn without(text: &str, start: &str, end: &str) -> Option<String> {
+    let place = text.find(start)?;
+    let length = text[place..].find(end)? + end.len();
+    Some([&text[..place], &text[place + length..]].concat())
 }
 
 // The new element before the first of these.
@@ -192,7 +367,7 @@ fn before(text: &str, mark: &str, element: &str) -> Option<String> {
 
 // The place of the first line's points.
 fn line_points(text: &str) -> Option<(usize, usize)> {
-    let start = text.find("points=\"")? + "points=\"".len();
+    let start = text.find(" points=\"")? + " points=\"".len();
     Some((start, start + text[start..].find('"')?))
 }
 
@@ -209,6 +384,20 @@ fn shorter_line(text: &str) -> Option<String> {
     let (start, end) = line_points(text)?;
     let kept = start + text[start..end].trim_end().rfind(' ')?;
     Some([&text[..kept], &text[end..]].concat())
+}
+
+// The first line without its highest point.
+fn without_peak(text: &str) -> Option<String> {
+    let (start, end) = line_points(text)?;
+    let height = |point: &&str| {
+        let y = point.split_once(',').and_then(|(_, y)| y.parse().ok());
+        y.unwrap_or(f64::INFINITY)
+    };
+    let points: Vec<&str> = text[start..end].split_whitespace().collect();
+    let highest = points.iter().map(height).fold(f64::INFINITY, f64::min);
+    let mut kept = points;
+    kept.retain(|point| height(point) > highest);
+    Some([&text[..start], &kept.join(" "), &text[end..]].concat())
 }
 
 // The picture without the boxes of this part.

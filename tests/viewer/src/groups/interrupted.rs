@@ -1,8 +1,10 @@
 //! Pictures that are interrupted while they are drawn.
 
+use crate::abif::files::shorts;
+use crate::drawing::{draw, PLAIN};
 use crate::program::Program;
 use crate::scratch::Scratch;
-use compare::abif::generate::{plain_file, Content, Order};
+use compare::abif::generate::{plain_file, Order};
 use compare::abif::reader::Tag;
 use compare::report::Group;
 use std::fs::{self, OpenOptions};
@@ -11,9 +13,9 @@ use std::process::{Command, Stdio};
 use std::thread::sleep;
 use std::time::Duration;
 
-/// So many that drawing them takes some tenths of a second.
-const POINTS: i32 = 20_000_000;
-const OLD_PICTURE: &[u8] = b"an older picture";
+/// So many, in rows so long, that drawing them takes some tenths of a second.
+const POINTS: i32 = 400_000_000;
+const POINTS_IN_A_ROW: &str = "2000000";
 
 pub fn interrupted(group: &mut Group) {
     for wait in [5, 20, 40, 60, 80, 100, 120] {
@@ -25,10 +27,18 @@ pub fn interrupted(group: &mut Group) {
 
 // The older picture is still there, whole, and no piece of the new one.
 fn check(group: &mut Group, scratch: &Scratch, wait: Duration) {
+    let picture = scratch.path("picture.svg");
+    let older = draw(
+        &Program::plain(),
+        Path::new("samples/run.ab1"),
+        &picture,
+        PLAIN,
+    );
+    group.check(older.picture.is_some(), &[], || format!("{older:?}"));
     let file = long_run(scratch);
-    let picture = scratch.write("picture.svg", OLD_PICTURE);
     let mut command = Command::new(Program::plain().path());
     command.arg("draw").arg(&file).arg("-o").arg(&picture);
+    command.args(["--points", POINTS_IN_A_ROW]);
     let mut child = command
         .stdout(Stdio::null())
         .spawn()
@@ -45,16 +55,17 @@ fn check(group: &mut Group, scratch: &Scratch, wait: Duration) {
     group.check(names == ["picture.svg", "run.ab1"], &[], || {
         format!("after {wait:?} there are {names:?}")
     });
-    let kept = fs::read(&picture).unwrap_or_default();
-    group.check(kept == OLD_PICTURE, &[], || {
-        format!("after {wait:?} the older picture has {} bytes", kept.len())
+    let kept = fs::read(&picture).ok();
+    group.check(kept == older.picture, &[], || {
+        let length = kept.map(|kept| kept.len());
+        format!("after {wait:?} the older picture has {length:?} bytes")
     });
 }
 
 // A channel of zeros, which take no room on the disk.
 fn long_run(scratch: &Scratch) -> PathBuf {
-    let shorts = Content::listed(4, vec![0; 8]);
-    let mut draft = plain_file(&[(Tag::new(b"DATA", 9), shorts)], Order::DirectoryFirst);
+    let items = [(Tag::new(b"DATA", 9), shorts([0; 4]))];
+    let mut draft = plain_file(&items, Order::DirectoryFirst);
     draft.entries[0].count = POINTS;
     draft.entries[0].data_size = 2 * POINTS;
     let file = scratch.write("run.ab1", &draft.bytes());

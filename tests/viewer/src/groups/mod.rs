@@ -1,16 +1,22 @@
 //! The test groups.
 
 mod broken_pictures;
+mod colours;
 mod cuts;
 mod damaged;
+mod dyes;
 mod export;
 mod interrupted;
 mod lines;
 mod list_and_show;
 mod long_files;
+mod memory;
 mod not_readable;
 mod options;
 mod orders;
+mod pages;
+mod points;
+mod printed;
 mod rows;
 mod sanitized;
 mod shelf;
@@ -20,7 +26,7 @@ mod well_formed;
 
 use compare::report::Run;
 
-pub const ALL: [(&str, Run); 21] = [
+pub const ALL: [(&str, Run); 29] = [
     ("lines", lines::lines),
     ("shelf", shelf::shelf),
     ("stored", stored::compare),
@@ -31,6 +37,9 @@ pub const ALL: [(&str, Run); 21] = [
     ("export", export::export),
     ("terminal", terminal::terminal),
     ("rows", rows::rows),
+    ("points", points::points),
+    ("dyes", dyes::dyes),
+    ("fragments", dyes::fragments),
     ("orders", orders::orders),
     ("long files", long_files::long_files),
     ("cuts ABIF", cuts::abif),
@@ -41,5 +50,10 @@ pub const ALL: [(&str, Run); 21] = [
     ("damaged GTC", damaged::gtc),
     ("well-formed", well_formed::well_formed),
     ("broken pictures", broken_pictures::broken_pictures),
+    ("pages", pages::pages),
+    ("printed", printed::printed),
+    ("labels", printed::labels),
+    ("colours", colours::colours),
+    ("memory", memory::memory),
     ("sanitized", sanitized::sanitized),
 ];

@@ -5,7 +5,7 @@ use crate::drawing::{check_all, Input, Wish, PLAIN};
 use compare::abif::generate::Order;
 use compare::report::Group;
 
-const LENGTHS: [usize; 12] = [0, 1, 2, 3, 599, 600, 601, 602, 1200, 1201, 1202, 1801];
+const LENGTHS: [usize; 12] = [0, 1, 2, 3, 499, 500, 501, 502, 1000, 1001, 1002, 1501];
 
 const LEVELS: [[i16; 4]; 6] = [
     [-900, 0, 500, 900],
@@ -22,7 +22,7 @@ pub fn rows(group: &mut Group) {
         let name = format!("channels of {length} points");
         inputs.push(Input::new(name, channels(length)));
         for other in LENGTHS {
-            let lengths = [length, other, 1, 640];
+            let lengths = [length, other, 1, 540];
             let name = format!("channels of {lengths:?} points");
             inputs.push(Input::new(name, run(lengths, Order::DirectoryFirst)));
         }

@@ -38,7 +38,9 @@ pub fn check(findings: &mut Findings, root: &Element, bytes: &[u8], wanted: u64)
 
 // A read's number has commas in its label.
 fn label_of(part: &str) -> String {
-    let number = part.strip_prefix("read ").and_then(|number| number.parse().ok());
+    let number = part
+        .strip_prefix("read ")
+        .and_then(|number| number.parse().ok());
     number.map_or(part.to_string(), |number| {
         format!("read {}", picture::grouped(number))
     })
@@ -55,8 +57,10 @@ fn check_read(findings: &mut Findings, root: &Element, bytes: &[u8], header: Hea
     let all_flows = usize::from(header.flows);
     let flows = all_flows.min(MOST_ROWS * FLOWS_IN_A_ROW);
     let rows = of_class(root, "row").len();
-    let expected = flows.div_ceil(FLOWS_IN_A_ROW).max(1);
-    findings.check(rows == expected, || format!("{rows} rows for {flows} flows"));
+    let expected = flows.div_ceil(FLOWS_IN_A_ROW);
+    findings.check(rows == expected, || {
+        format!("{rows} rows for {flows} flows")
+    });
     let left_out = (flows < all_flows).then_some((flows + 1, all_flows));
     picture::check_left_out(findings, root, left_out);
     check_flows(findings, root, bytes, flows, read);

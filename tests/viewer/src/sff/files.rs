@@ -66,6 +66,24 @@ fn reads(flows: u16) -> Vec<Read> {
     vec![first, second, third]
 }
 
+/// A read of so many flows, with so many letters under each of some of them.
+pub fn stretches(flows: u16, lengths: &[usize]) -> Vec<u8> {
+    let mut steps = Vec::new();
+    for &length in lengths {
+        steps.push(3);
+        steps.extend(vec![0; length - 1]);
+    }
+    // A step goes no further than a byte.
+    let mut place: u16 = 3 * lengths.len() as u16;
+    while place + 200 <= flows {
+        steps.push(200);
+        place += 200;
+    }
+    let mut read = Read::new(b"stretches", flows, &steps);
+    read.clips = [2, steps.len() as u16 - 1, 0, 0];
+    Draft::new(flows, 4, vec![read], None).bytes()
+}
+
 // Three rows of flows, the clipped ends of which go over a row's end.
 fn many_flows() -> Vec<u8> {
     let flows = 205;
