@@ -52,17 +52,19 @@ fn all_lines(paths: &[String], samples: &[Sample]) -> Vec<u8> {
     lines.collect::<Vec<Vec<u8>>>().concat()
 }
 
-// The program behind the stored lines refuses these, but the viewer has no such limit.
+// The program behind the stored lines refuses the longest of these, but the viewer has no such limit.
 fn long_files(group: &mut Group) {
     let scratch = Scratch::new();
-    for (name, mut bytes) in samples::all() {
-        bytes.resize(LONG, 0);
-        let path = scratch.write(name, &bytes);
-        let path = path.to_string_lossy().into_owned();
-        let expected = text(&verdict::lines(path.as_bytes(), &bytes));
-        let status = i32::from(!verdict::is_whole(&bytes));
-        let output = Program::plain().run(&[&path]);
-        expect(group, &bytes, &output, &expected, status);
+    for (name, bytes) in samples::all() {
+        for more in [1, LONG] {
+            let bytes = [&bytes[..], &vec![0; more]].concat();
+            let path = scratch.write(name, &bytes);
+            let path = path.to_string_lossy().into_owned();
+            let expected = text(&verdict::lines(path.as_bytes(), &bytes));
+            let status = i32::from(!verdict::is_whole(&bytes));
+            let output = Program::plain().run(&[&path]);
+            expect(group, &bytes, &output, &expected, status);
+        }
     }
 }
 

@@ -103,15 +103,15 @@ fn many_elements(group: &mut Group, scratch: &Scratch) {
 
 // More numbers and letters than are read at once, shown as few are.
 fn many_numbers(group: &mut Group, scratch: &Scratch) {
-    let letters = b"GATTACA".repeat(1300);
-    let mut unprintable = letters.clone();
-    unprintable[9000] = 0x1B;
+    let letters = b" GATTACA~".repeat(1000);
+    let mut files = vec![many(CHAR, letters.clone())];
+    for unprintable in [0x1F, 0x7F, 0x80] {
+        let mut letters = letters.clone();
+        letters[8999] = unprintable;
+        files.push(many(CHAR, letters));
+    }
     let shorts = (0..9000_u16).flat_map(u16::to_be_bytes).collect();
-    let files = [
-        many(CHAR, letters),
-        many(CHAR, unprintable),
-        many(SHORT, shorts),
-    ];
+    files.push(many(SHORT, shorts));
     for bytes in files {
         let file = scratch.write("numbers", &bytes);
         let lines = verdict::lines(file.as_os_str().as_bytes(), &bytes);

@@ -88,7 +88,7 @@ const WRONG: [&[&str]; 63] = [
 ];
 
 /// Outputs that are not written.
-const NOT_WRITTEN: [&[&str]; 22] = [
+const NOT_WRITTEN: [&[&str]; 25] = [
     &["draw", FILE, "-o", FILE],
     &["draw", FILE, "-o", "soft.ab1"],
     &["draw", "soft.ab1", "-o", FILE],
@@ -105,6 +105,9 @@ const NOT_WRITTEN: [&[&str]; 22] = [
     &["draw", FILE, "-o", "svg.html"],
     &["draw", FILE, "-o", "mine.html"],
     &["draw", "mine.ab1"],
+    &["draw", "old.svg", "-o", "old.svg"],
+    &["draw", "far.svg", "-o", "soft.svg"],
+    &["draw", "soft.svg", "-o", "far.svg"],
     &["export", FILE, "--fasta", "-o", FILE],
     &["export", FILE, "--fasta", "-o", "link.ab1"],
     &["export", FILE, "--fasta", "-o", "mine.svg"],
@@ -453,7 +456,7 @@ fn same_pictures(group: &mut Group, scratch: &Scratch) {
         group.check(is_drawn, &[], || {
             format!("{arguments:?}: {new:?}, {output:?}")
         });
-        let is_beside = arguments.len() != 2 || *new[0] == "run.sff.svg";
+        let is_beside = arguments.len() != 2 || new == ["run.sff.svg"];
         group.check(is_beside, &[], || format!("{arguments:?}: {new:?}"));
         let earlier = first.entry(same).or_insert_with(|| picture.clone());
         group.check(*earlier == picture, &[], || {

@@ -11,10 +11,15 @@ use compare::gtc::generate as gtc;
 use compare::report::Group;
 use compare::sff::draft::{Draft, Read};
 use std::ffi::{OsStr, OsString};
+use std::fs::File;
+use std::io::Read as _;
 use std::os::unix::ffi::{OsStrExt, OsStringExt};
+use std::process::{Command, Stdio};
 
 const P_STRING: i16 = 18;
 const C_STRING: i16 = 19;
+const BOOL: i16 = 13;
+const MANY: usize = 1_000_000;
 
 /// What a terminal may take for a command, what turns or hides the letters around it, and what is no text at all; and
 /// letters that it must show.
@@ -61,6 +66,51 @@ pub fn terminal(group: &mut Group) {
         check_words(&mut findings, text);
         findings.report(group, &format!("{:?}", String::from_utf8_lossy(text)), text);
     }
+    cut_while_it_is_read(group);
+}
+
+// The program waits until its output is read, and finds its file cut when it goes on.
+fn cut_while_it_is_read(group: &mut Group) {
+    let scratch = Scratch::new();
+    let items = [(Tag::new(b"MANY", 1), Content::listed(BOOL, vec![1; MANY]))];
+    let bytes = plain_file(&items, Order::DirectoryFirst).bytes();
+    let name = OsStr::from_bytes(b"cut\x1B[2J\x9B");
+    let file = scratch.write(name, &bytes);
+    let started = Command::new(Program::plain().path())
+        .arg("show")
+        .arg(&file)
+        .args(["MANY", "1"])
+        .stdout(Stdio::piped())
+        .stderr(Stdio::piped())
+        .spawn();
+    let Ok(mut child) = started else {
+        return group.check(false, &[], || "the program does not run".to_string());
+    };
+    let mut first = [0];
+    let read = child.stdout.as_mut().map(|out| out.read_exact(&mut first));
+    let cut = File::options().write(true).open(&file);
+    let cut = cut.and_then(|file| file.set_len(1));
+    let ended = child.wait_with_output();
+    let expected = format!(
+        "jtview: {}: was cut while it was read, or cannot be read\n",
+        cleaned(file.as_os_str().as_bytes())
+    );
+    let is_told = matches!(&ended, Ok(ended) if ended.status.code() == Some(2)
+        && ended.stderr == expected.as_bytes());
+    group.input();
+    group.check(
+        is_told && cut.is_ok() && matches!(read, Some(Ok(()))),
+        &[],
+        || {
+            let told = ended.map(|ended| {
+                (
+                    ended.status,
+                    String::from_utf8_lossy(&ended.stderr).into_owned(),
+                )
+            });
+            format!("{told:?}")
+        },
+    );
 }
 
 // The rule itself: what is shown may be shown, and what may be shown is left as it is.

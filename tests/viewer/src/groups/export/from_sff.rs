@@ -81,12 +81,15 @@ pub fn runs() -> Vec<Vec<u8>> {
     letter.clips = [1, 60, 0, 0];
     let mut quality = Drafted::new(b"quality", 200, &[1; 20]);
     quality.qualities[4] = 94;
+    let mut inside = Drafted::new(b"inside", 200, &[1; 20]);
+    inside.clips = [4, 0, 0, 18];
+    inside.letters[6] = b'?';
     let mut both = Drafted::new(b"both", 200, &[1; 20]);
     both.qualities[2] = 255;
     both.letters[9] = b' ';
     let mut refused = Drafted::new(b"refused", 200, &[1; 20]);
     refused.clips = [21, 0, 0, 0];
-    let reads = vec![long, short, letter, quality, both, refused.clone()];
+    let reads = vec![long, short, letter, quality, inside, both, refused.clone()];
     vec![
         Draft::new(200, 4, reads, Some(Index::new(2, b"an index"))).bytes(),
         Draft::new(200, 4, vec![refused], None).bytes(),
