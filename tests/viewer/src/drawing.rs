@@ -222,6 +222,7 @@ pub fn check_picture(
     });
     check_name(findings, &root, file);
     check_sizes(findings, &root);
+    check_styles(findings, &root);
     match Format::of(bytes) {
         Format::Abif => abif::check::check(findings, &root, bytes, wish.raw, wish.points),
         Format::Sff => sff::check::check(findings, &root, bytes, wish.read.unwrap_or(1)),
@@ -254,6 +255,33 @@ fn check_sizes(findings: &mut Findings, root: &Element) {
             format!("a picture of {sizes:?} in {view:?}")
         });
     }
+}
+
+// A picture that is no page is made as wide as the paper, and pages say what they are.
+fn check_styles(findings: &mut Findings, root: &Element) {
+    let style: String = picture::all(root)
+        .into_iter()
+        .filter(|it| it.name == "style")
+        .map(|style| style.words.as_str())
+        .collect();
+    if root.name == "svg" {
+        return findings.check(style.contains("@media print{"), || {
+            format!("no rule for printing in {style:?}")
+        });
+    }
+    let head = root.children.iter().find(|it| it.name == "head");
+    let inside = head.map_or(&[][..], |head| &head.children);
+    let mut names: Vec<&str> = inside.iter().map(|it| it.name.as_str()).collect();
+    names.dedup();
+    findings.check(names == ["meta", "title", "style"], || {
+        format!("the head has {names:?}")
+    });
+    let title = inside.iter().find(|it| it.name == "title");
+    let title = title.map_or("", |title| &title.words);
+    let name = root.attribute("data-name").unwrap_or("");
+    findings.check(title.contains(name), || {
+        format!("the title is {title:?} for {name:?}")
+    });
 }
 
 // Nothing is drawn of a file that is of no format.

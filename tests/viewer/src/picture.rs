@@ -147,10 +147,18 @@ fn check_room(findings: &mut Findings, hatched: &Element, text: &Element) {
     let end = |element: &Element, width: f64| Some(number::<f64>(element, "x")? + width);
     let width = number(hatched, "width").unwrap_or(0.0);
     let words = text.words.chars().count() as f64 * LETTER_WIDTH;
-    let fits = end(text, words).zip(end(hatched, width));
-    findings.check(fits.is_some_and(|(text, hatched)| text <= hatched), || {
+    let ends = end(text, words).zip(end(hatched, width));
+    let fits = ends.is_some_and(|(text, hatched)| text <= hatched);
+    findings.check(fits && is_beside(text, hatched), || {
         format!("{:?} in {width} pixels", text.words)
     });
+}
+
+/// Whether the text's foot stands between a box's top and its foot.
+pub fn is_beside(text: &Element, hatched: &Element) -> bool {
+    let size = |name| number::<f64>(hatched, name).unwrap_or(f64::NAN);
+    let foot = number::<f64>(text, "y").unwrap_or(f64::NAN);
+    (size("y")..=size("y") + size("height")).contains(&foot)
 }
 
 fn check_root(findings: &mut Findings, root: &Element, bytes: &[u8]) {

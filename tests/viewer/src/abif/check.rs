@@ -1,5 +1,6 @@
 //! The checks of an ABIF file's picture.
 
+use super::axes::check_axes;
 use super::contents::Contents;
 use super::letters::check_letters;
 use super::lines::{check_lines, traces};
@@ -36,6 +37,7 @@ pub fn check(
     for row in &rows {
         check_row(findings, row, &contents);
         check_lines(findings, row, &contents);
+        check_axes(findings, row, &contents);
         check_ended(findings, row, &contents);
         let is_drawn = !traces(row.element).is_empty();
         picture::check_mark(findings, row.element, is_drawn, is_refused);
@@ -153,11 +155,19 @@ fn check_ended(findings: &mut Findings, row: &Row, contents: &Contents) {
     findings.check(found == told, || {
         format!("row {} says {found:?} and not {told:?}", row.index)
     });
+    check_lanes(findings, row, &boxes, &words);
+}
+
+// Each has a lane of its own below the plot, with its words in it.
+fn check_lanes(findings: &mut Findings, row: &Row, boxes: &[&Element], words: &[&Element]) {
     let height = number::<f64>(row.element, "data-height").unwrap_or(0.0);
     let is_below = |hatched: &&Element| number::<f64>(hatched, "y") >= Some(height);
     let places: BTreeSet<&str> = boxes.iter().filter_map(|it| it.attribute("y")).collect();
     let is_apart = boxes.iter().all(is_below) && places.len() == boxes.len();
     findings.check(is_apart, || format!("{boxes:?} share a lane or the plot"));
+    let mut both = boxes.iter().zip(words);
+    let fits = both.all(|(hatched, text)| picture::is_beside(text, hatched));
+    findings.check(fits, || format!("{words:?} are not in {boxes:?}"));
 }
 
 // The flat rows at the front of a run of fragments are told and not drawn.

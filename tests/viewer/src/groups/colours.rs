@@ -90,6 +90,7 @@ fn check_file(findings: &mut Findings, input: &Input, wish: Wish) {
         check_marks(findings, &style, page);
     }
     check_channels(findings, &style, &root);
+    check_legend(findings, &style, &root);
 }
 
 // Every text can be read on what stands behind it, whatever that is.
@@ -185,6 +186,50 @@ fn check_channels(findings: &mut Findings, style: &Style, root: &Element) {
         if !looks.iter().any(|(other, _)| *other == part) {
             looks.push((part, look));
         }
+    }
+}
+
+// The line before a channel's words looks as its trace, and a letter has the colour of its own.
+fn check_legend(findings: &mut Findings, style: &Style, root: &Element) {
+    let look = |element: &Element| ["stroke", "stroke-dasharray"].map(|it| style.own(element, it));
+    let traces = of_class(root, "trace");
+    let mut sample = None;
+    for element in all(root) {
+        if element.name == "path" {
+            sample = Some(look(element));
+        }
+        let words = element.words.as_str();
+        let mut told = traces.iter().filter(|trace| {
+            let part = trace.attribute("data-part").unwrap_or("no part");
+            let behind = words.strip_prefix(part).unwrap_or("");
+            element.name == "text" && behind.starts_with(' ') && behind.contains(" point")
+        });
+        let Some(trace) = told.next() else {
+            continue;
+        };
+        findings.check(sample == Some(look(trace)), || {
+            format!("{words:?} is shown as {sample:?}, its trace is {trace:?}")
+        });
+        check_letters(findings, style, root, trace, words);
+    }
+}
+
+fn check_letters(
+    findings: &mut Findings,
+    style: &Style,
+    root: &Element,
+    trace: &Element,
+    words: &str,
+) {
+    let base = words.split_once(" base ").map(|(_, behind)| behind);
+    let base = base.and_then(|behind| behind.chars().next());
+    let stroke = style.own(trace, "stroke");
+    for letter in of_class(root, "letter") {
+        let is_other = base.map(String::from).as_ref() != Some(&letter.words);
+        let fill = style.own(letter, "fill");
+        findings.check(is_other || fill == stroke, || {
+            format!("{letter:?} is {fill:?}, its trace {stroke:?}")
+        });
     }
 }
 

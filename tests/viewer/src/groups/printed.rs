@@ -44,12 +44,11 @@ fn sample(name: &str) -> Input {
 }
 
 fn files() -> Vec<Input> {
-    let fragments = Fragments::new(5, false, 1200, 4000);
     vec![
         sample("run.ab1"),
         sample("cut-run.ab1"),
         Input::new("long.ab1", long_run()),
-        Input::new("fragments.fsa", fragments.bytes(Order::DirectoryFirst)),
+        sample("fragments.fsa"),
         sample("run.sff"),
         sample("cut-run.gtc"),
     ]
@@ -148,15 +147,19 @@ fn jobs(files: &[Input], on_all_papers: bool) -> Vec<Job<'_>> {
             wish: PLAIN,
             paper: None,
         });
-        for made_for in PAPERS {
-            let papers = PAPERS.into_iter();
-            let papers = papers.filter(|&paper| on_all_papers || paper == made_for);
-            jobs.extend(papers.map(|paper| Job {
-                file,
-                wish: Wish::pages(made_for),
-                paper: Some(paper),
-            }));
-        }
+        // A small sheet and a wide one have all the room that there may be for a label.
+        let papers: Vec<(Paper, Paper)> = match on_all_papers {
+            true => PAPERS
+                .into_iter()
+                .flat_map(|made_for| PAPERS.map(|paper| (made_for, paper)))
+                .collect(),
+            false => vec![(PAPERS[0], PAPERS[0]), (PAPERS[3], PAPERS[3])],
+        };
+        jobs.extend(papers.into_iter().map(|(made_for, paper)| Job {
+            file,
+            wish: Wish::pages(made_for),
+            paper: Some(paper),
+        }));
     }
     jobs
 }
