@@ -97,9 +97,10 @@ static void fold_front(struct chart *chart) {
     }
 }
 
-static void set_scale(struct chart_row *row, int64_t top, int64_t below) {
-    row->top = round_above(top);
-    below = below > 0 ? round_above(below) : 0;
+/* The scale is round, and where something lies below 0 there is room for it to be seen. */
+static void set_scale(struct chart_row *row, struct bounds bounds) {
+    int64_t below = bounds.lowest < 0 ? round_above(-bounds.lowest) : 0;
+    row->top = round_above(bounds.highest > LOWEST_TOP ? bounds.highest : LOWEST_TOP);
     row->bottom = below == 0 || below > row->top / LEAST_BELOW ? -below : -row->top / LEAST_BELOW;
     row->tenths = 10.0 * PLOT_HEIGHT / (double)(row->top - row->bottom);
 }
@@ -111,7 +112,7 @@ static void choose_row_scale(struct chart *chart, struct chart_row *row) {
     for (int i = 0; i < chart->run->channel_count; i++) {
         bounds = bounds_of_both(bounds, row->bounds[i]);
     }
-    set_scale(row, bounds.highest > LOWEST_TOP ? bounds.highest : LOWEST_TOP, -bounds.lowest);
+    set_scale(row, bounds);
 }
 
 /* The levels of a channel, as they are being read. */
@@ -130,26 +131,36 @@ static void add_to_levels(void *context, uint64_t first, const int64_t *values, 
 }
 
 /* Each channel by itself has nearly all of its values on the scale, so that none can lie outside as a whole. */
-static void choose_common_scale(struct chart *chart) {
+static struct bounds usual_bounds(const struct chart *chart) {
     const struct run *run = chart->run;
     struct channel_levels *read = take(1, sizeof *read);
-    int64_t top = LOWEST_TOP;
-    int64_t below = 0;
+    struct bounds usual = {0, 0};
     read->chart = chart;
     for (int i = 0; i < run->channel_count; i++) {
         read->channel = (uint64_t)i;
         levels_begin(&read->levels, chart->range);
         series_visit(run->file, &run->channels[i], 0, first_point(chart, chart->row_count) + 1, add_to_levels, read);
-        int64_t up = usual_level(&read->levels.above, read->levels.count);
-        int64_t down = usual_level(&read->levels.below, read->levels.count);
-        top = up > top ? up : top;
-        below = down > below ? down : below;
+        struct bounds levels = {-usual_level(&read->levels.below, read->levels.count),
+                                usual_level(&read->levels.above, read->levels.count)};
+        usual = bounds_of_both(usual, levels);
     }
+    free(read);
+    return usual;
+}
+
+static void choose_common_scale(struct chart *chart) {
+    struct bounds usual = usual_bounds(chart);
     for (uint64_t row = 0; row < chart->row_count; row++) {
-        set_scale(&chart->rows[row], top, below);
+        set_scale(&chart->rows[row], usual);
     }
     chart->off_scale = chart->range.highest > chart->rows[0].top || chart->range.lowest < chart->rows[0].bottom;
-    free(read);
+}
+
+static void choose_own_scales(struct chart *chart) {
+    fold_front(chart);
+    for (uint64_t row = 0; row < chart->row_count; row++) {
+        choose_row_scale(chart, &chart->rows[row]);
+    }
 }
 
 static void choose_scales(struct chart *chart) {
@@ -157,13 +168,10 @@ static void choose_scales(struct chart *chart) {
         bound_row(chart, row);
         progress_show(row, 3 * chart->row_count);
     }
-    if (!chart->run->fragment) {
+    if (chart->run->fragment) {
+        choose_own_scales(chart);
+    } else {
         choose_common_scale(chart);
-        return;
-    }
-    fold_front(chart);
-    for (uint64_t row = 0; row < chart->row_count; row++) {
-        choose_row_scale(chart, &chart->rows[row]);
     }
 }
 

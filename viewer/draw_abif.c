@@ -248,15 +248,21 @@ static void draw_clip_path(void *subject, uint64_t index, int64_t y) {
                PLOT_HEIGHT + 2);
 }
 
-static void lay_out(struct abif_picture *abif, struct sheet *sheet) {
-    enum { GAP = 16 };
-    const struct chart *chart = abif->chart;
-    for (int i = 0; i < chart->run->channel_count + abif->part_count; i++) {
+static void lay_out_parts(struct abif_picture *abif, struct sheet *sheet) {
+    for (int i = 0; i < abif->chart->run->channel_count + abif->part_count; i++) {
         sheet_add(sheet, PART_HEIGHT, draw_parts_line, (uint64_t)i);
     }
+}
+
+static void lay_out_notes(struct abif_picture *abif, struct sheet *sheet) {
     for (int i = 0; i < abif->note_count; i++) {
         sheet_add(sheet, NOTE_HEIGHT, draw_note, (uint64_t)i);
     }
+}
+
+static void lay_out_rows(struct abif_picture *abif, struct sheet *sheet) {
+    enum { GAP = 16 };
+    const struct chart *chart = abif->chart;
     sheet_add(sheet, GAP, draw_clip_path, 0);
     if (chart->folded > 0) {
         sheet_add(sheet, FOLD_HEIGHT, draw_front, 0);
@@ -280,7 +286,9 @@ bool draw_abif(struct picture *picture, const struct draw_options *options) {
     collect_parts(&abif);
     note_channels(&abif);
     note_letters(&abif);
-    lay_out(&abif, sheet);
+    lay_out_parts(&abif, sheet);
+    lay_out_notes(&abif, sheet);
+    lay_out_rows(&abif, sheet);
     sheet_draw(sheet, picture, &abif);
     chart_free(abif.chart);
     free(sheet);

@@ -126,15 +126,13 @@ static int64_t tenths_of(const struct flowgram *flowgram, int64_t value) {
 
 /* The number of bases from one level to the next, so that their numbers have room below each other. */
 static int64_t level_step(const struct flowgram *flowgram) {
-    enum { MOST_LEVELS = 9 };
-    static const int64_t factors[] = {2, 5, 10};
-    int64_t step = 1;
-    for (int64_t power = 1; flowgram->top / HUNDREDTHS / step > MOST_LEVELS; power *= 10) {
-        for (size_t i = 0; i < 3 && flowgram->top / HUNDREDTHS / step > MOST_LEVELS; i++) {
-            step = power * factors[i];
-        }
+    static const int64_t steps[] = {1, 2, 5, 10, 20, 50, 100};
+    enum { MOST_LEVELS = 9, LAST = sizeof steps / sizeof steps[0] - 1 };
+    size_t i = 0;
+    while (i < LAST && flowgram->top / HUNDREDTHS / steps[i] > MOST_LEVELS) {
+        i++;
     }
-    return step;
+    return steps[i];
 }
 
 static void draw_scale(struct flowgram *flowgram) {

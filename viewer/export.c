@@ -63,19 +63,17 @@ void export_begin_progress(const struct export *export) {
     }
 }
 
-void export_lacks(struct export *export, const char *what, const char *reason) {
+void export_lacks(struct export *export, const char *reason) {
     progress_end();
-    fputs("jtview: ", stderr);
-    print_string(stderr, export->file->path);
-    fprintf(stderr, ": %s%s%s\n", what, what[0] != '\0' ? ": " : "", reason);
+    tell_failure(export->file->path, reason);
     raise_status(export, STATUS_REFUSED);
     export_begin_progress(export);
 }
 
 void export_lacks_refused(struct export *export, const char *what, uint64_t refusal) {
-    char reason[80];
-    snprintf(reason, sizeof reason, "%s (refused %" PRIu64 ")", refusal_words(refusal), refusal);
-    export_lacks(export, what, reason);
+    char reason[128];
+    snprintf(reason, sizeof reason, "%s: %s (refused %" PRIu64 ")", what, refusal_words(refusal), refusal);
+    export_lacks(export, reason);
 }
 
 /* What parts words, in any script. */

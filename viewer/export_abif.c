@@ -42,7 +42,7 @@ static bool is_writable(struct export *export, const struct series *series, cons
     if (number != 0) {
         char reason[WHAT_LENGTH];
         snprintf(reason, sizeof reason, "%s %" PRIu64 " cannot be written", what, number);
-        export_lacks(export, "", reason);
+        export_lacks(export, reason);
     }
     return number == 0;
 }
@@ -53,7 +53,7 @@ static bool is_qualified(struct export *export, const struct run *run) {
         char reason[WHAT_LENGTH];
         snprintf(reason, sizeof reason, "%s has %" PRIu64 " letters, but %s has %" PRIu64 " qualities",
                  run->letters.tag, run->letters.count, run->qualities.tag, run->qualities.count);
-        export_lacks(export, "", reason);
+        export_lacks(export, reason);
     }
     return run->qualified;
 }

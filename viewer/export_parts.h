@@ -23,8 +23,8 @@ void export_gtc(struct export *export);
    there is not. False where it cannot be opened, which is told, or was not written so far. */
 bool export_opens(struct export *export);
 
-/* Tells why something of the file is not exported, with what that is; the status tells it too. */
-void export_lacks(struct export *export, const char *what, const char *reason);
+/* Tells why something of the file is not exported, and of a part, what it is refused with; the status tells it too. */
+void export_lacks(struct export *export, const char *reason);
 void export_lacks_refused(struct export *export, const char *what, uint64_t refusal);
 
 /* Prints a text that is to be one word. */

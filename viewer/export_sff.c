@@ -26,27 +26,26 @@ static struct bases bases_of(const struct export *export, const struct jt_sff_re
     return bases;
 }
 
-/* Whether all that is exported of the read can be written; what cannot is told. */
-static bool is_writable(struct export *export, uint64_t k, const struct bases *bases) {
-    const char *fault = NULL;
+/* Whether all these bytes of the read can be written; the first that cannot is told. */
+static bool are_writable(struct export *export, uint64_t k, const char *what, const struct bases *bases,
+                         const uint8_t *bytes, bool (*is_writable)(int64_t)) {
     uint64_t i = 0;
-    while (i < bases->count && fault == NULL) {
-        bool qualified = export->options->kind == EXPORT_FASTQ;
-        if (!is_exported_letter(bases->letters[i])) {
-            fault = "letter";
-        } else if (qualified && !is_exported_quality(bases->qualities[i])) {
-            fault = "quality";
-        }
+    while (i < bases->count && is_writable(bytes[i])) {
         i++;
     }
-    if (fault != NULL) {
-        char what[WHAT_LENGTH];
+    if (i < bases->count) {
         char reason[WHAT_LENGTH];
-        snprintf(what, sizeof what, "read %" PRIu64, k);
-        snprintf(reason, sizeof reason, "%s %" PRIu64 " cannot be written", fault, bases->first + i - 1);
-        export_lacks(export, what, reason);
+        snprintf(reason, sizeof reason, "read %" PRIu64 ": %s %" PRIu64 " cannot be written", k, what,
+                 bases->first + i);
+        export_lacks(export, reason);
     }
-    return fault == NULL;
+    return i == bases->count;
+}
+
+static bool can_export(struct export *export, uint64_t k, const struct bases *bases) {
+    return are_writable(export, k, "letter", bases, bases->letters, is_exported_letter) &&
+           (export->options->kind == EXPORT_FASTA ||
+            are_writable(export, k, "quality", bases, bases->qualities, is_exported_quality));
 }
 
 static void print_header(struct export *export, uint64_t k, const struct jt_sff_read *read) {
@@ -94,7 +93,7 @@ static bool export_read(struct export *export, uint64_t k, const struct jt_sff_r
         return true;
     }
     struct bases bases = bases_of(export, read);
-    if (!is_writable(export, k, &bases)) {
+    if (!can_export(export, k, &bases)) {
         return true;
     }
     if (!export_opens(export)) {

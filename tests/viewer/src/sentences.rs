@@ -226,25 +226,25 @@ fn gtc_item(id: u16) -> String {
     format!("{} ({id})", name_of(id).unwrap_or("unknown"))
 }
 
+// The item at fault where a cut is and it is no channel, then the channels.
 fn channels(bytes: &[u8], refusal: Refusal, item: &str) -> String {
     let channels = Contents::of(bytes, false, None).channels;
     let is_channel = channels.iter().any(|channel| channel.part == item);
-    let is_told = refusal == Refusal::CutShort && !is_channel;
-    let mut missing = channels.iter().map(|channel| &channel.values);
-    if missing.all(|values| *values == Err(Refusal::NotThere)) {
-        return unread(is_told, item, String::new());
-    }
-    let refused: Vec<String> = channels
+    let parts: Vec<Part> = channels
         .iter()
-        .filter(|channel| channel.values.is_err())
-        .map(channel_name)
+        .map(|channel| {
+            (
+                channel_name(channel),
+                channel.values.as_ref().err().copied(),
+            )
+        })
         .collect();
-    let told = match refused.len() {
-        0 => "Every channel could be read.".to_string(),
-        1 => format!("Channel {} could not be read.", joined(&refused)),
-        _ => format!("Channels {} could not be read.", joined(&refused)),
-    };
-    unread(is_told, item, told)
+    let told = told_of(
+        &parts,
+        "Every channel could be read.",
+        ["Channel ", "Channels "],
+    );
+    behind_the_item(refusal == Refusal::CutShort && !is_channel, item, told)
 }
 
 fn channel_name(channel: &Channel) -> String {
@@ -256,34 +256,44 @@ fn channel_name(channel: &Channel) -> String {
 
 fn arrays(bytes: &[u8], refusal: Refusal, item: &str) -> String {
     let is_array = ARRAYS.iter().any(|&id| gtc_item(id) == item);
-    let is_told = refusal == Refusal::CutShort && !is_array;
-    let refusals = ARRAYS.map(|id| lookup(bytes, id).err());
-    let named = ARRAYS.iter().zip(refusals);
-    let refused: Vec<String> = named
-        .filter(|(_, refusal)| refusal.is_some())
-        .map(|(&id, _)| gtc_item(id))
-        .collect();
-    let told = if refused.is_empty() {
-        "Every array of the SNPs could be read.".to_string()
-    } else if refusals
-        .iter()
-        .all(|&refusal| refusal == Some(Refusal::NotThere))
-    {
-        String::new()
-    } else {
-        format!("{} could not be read.", joined(&refused))
-    };
-    unread(is_told, item, told)
+    let parts = ARRAYS.map(|id| (gtc_item(id), lookup(bytes, id).err()));
+    let told = told_of(&parts, "Every array of the SNPs could be read.", ["", ""]);
+    behind_the_item(refusal == Refusal::CutShort && !is_array, item, told)
 }
 
-// What is told of the item at fault, and of the others.
-fn unread(is_told: bool, item: &str, others: String) -> String {
-    let first = format!("{item} could not be read.");
-    match (is_told, others.is_empty()) {
-        (false, _) => others,
-        (true, true) => first,
-        (true, false) => format!("{first} {others}"),
+/// A part's name, and what it is refused with.
+type Part = (String, Option<Refusal>);
+
+// What is told of the parts: those that could not be read, and those that are not there; nothing where none is.
+fn told_of(parts: &[Part], all: &str, [one, many]: [&str; 2]) -> Vec<String> {
+    let named = |is_so: fn(Refusal) -> bool| {
+        let chosen = parts.iter().filter(|part| part.1.is_some_and(is_so));
+        chosen.map(|part| part.0.clone()).collect::<Vec<String>>()
+    };
+    let missing = named(|refusal| refusal == Refusal::NotThere);
+    let unread = named(|refusal| refusal != Refusal::NotThere);
+    if missing.len() == parts.len() {
+        return Vec::new();
     }
+    if missing.is_empty() && unread.is_empty() {
+        return vec![all.to_string()];
+    }
+    let before = |names: &[String]| if names.len() == 1 { one } else { many };
+    let are = if missing.len() == 1 { "is" } else { "are" };
+    let read = format!("{}{} could not be read.", before(&unread), joined(&unread));
+    let there = format!(
+        "{}{} {are} not in this file.",
+        before(&missing),
+        joined(&missing)
+    );
+    let told = [(unread, read), (missing, there)].into_iter();
+    told.filter(|it| !it.0.is_empty()).map(|it| it.1).collect()
+}
+
+fn behind_the_item(is_told: bool, item: &str, told: Vec<String>) -> String {
+    let first = is_told.then(|| format!("{item} could not be read."));
+    let sentences: Vec<String> = first.into_iter().chain(told).collect();
+    sentences.join(" ")
 }
 
 fn joined(names: &[String]) -> String {

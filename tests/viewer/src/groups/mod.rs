@@ -5,6 +5,7 @@ mod colours;
 mod cuts;
 mod damaged;
 mod dyes;
+mod export;
 mod interrupted;
 mod lines;
 mod list_and_show;
@@ -20,11 +21,12 @@ mod rows;
 mod sanitized;
 mod shelf;
 pub mod stored;
+mod terminal;
 mod well_formed;
 
 use compare::report::Run;
 
-pub const ALL: [(&str, Run); 27] = [
+pub const ALL: [(&str, Run); 29] = [
     ("lines", lines::lines),
     ("shelf", shelf::shelf),
     ("stored", stored::compare),
@@ -32,6 +34,8 @@ pub const ALL: [(&str, Run); 27] = [
     ("not readable", not_readable::not_readable),
     ("interrupted", interrupted::interrupted),
     ("list and show", list_and_show::list_and_show),
+    ("export", export::export),
+    ("terminal", terminal::terminal),
     ("rows", rows::rows),
     ("points", points::points),
     ("dyes", dyes::dyes),

@@ -1,6 +1,7 @@
 //! The sanitized program, which must do as the plain one does.
 
 use super::damaged::{abif_files, gtc_files, sff_files};
+use super::export::all_asked;
 use crate::drawing::{draw, Input, Wish, PLAIN};
 use crate::findings::Findings;
 use crate::program::{Output, Program};
@@ -121,6 +122,8 @@ impl Both {
                 number.to_string().into(),
             ]);
         }
+        let exports = all_asked(Format::of(bytes)).iter();
+        commands.extend(exports.map(|asked| asked.refused().arguments(&self.file)));
         commands
     }
 

@@ -59,6 +59,25 @@ const SHOWN: [(&str, &str, &str); 26] = [
     ("not-a-file-we-know.txt", "DATA", "1"),
 ];
 
+/// Files that are exported, with the options.
+const EXPORTED: [(&str, &str); 12] = [
+    ("run.ab1", "--fasta"),
+    ("run.ab1", "--fastq"),
+    ("cut-run.ab1", "--fasta"),
+    ("cut-run.ab1", "--fasta --refused"),
+    ("run.sff", "--fasta"),
+    ("run.sff", "--fastq --trimmed"),
+    ("run.sff", "--fastq --read=2"),
+    ("cut-run.sff", "--fasta --trimmed --refused"),
+    ("clip-above-the-bases.sff", "--fasta"),
+    ("three-snps.gtc", "--csv"),
+    ("code-46.gtc", "--csv"),
+    ("cut-in-the-scanner-data.gtc", "--csv --refused"),
+];
+
+/// The commands whose help is stored, the program itself among them.
+const HELPED: [&[&str]; 5] = [&[], &["list"], &["show"], &["draw"], &["export"]];
+
 /// Small files that are drawn.
 const DRAWN: [&str; 12] = [
     "one-inline-item.ab1",
@@ -122,6 +141,20 @@ fn all_outputs() -> Vec<Stored> {
         let path = format!("samples/{name}");
         let stored = format!("show-{name}-{tag}-{number}.txt");
         outputs.push(printed(stored, &["show", &path, tag, number]));
+    }
+    for (name, options) in EXPORTED {
+        let path = format!("samples/{name}");
+        let stored = format!("export-{name}{}.txt", options.replace(' ', ""));
+        let arguments: Vec<&str> = ["export", &path]
+            .into_iter()
+            .chain(options.split(' '))
+            .collect();
+        outputs.push(printed(stored, &arguments));
+    }
+    for command in HELPED {
+        let stored = [&["help"], command].concat().join("-");
+        let arguments = [command, &["--help"]].concat();
+        outputs.push(printed(format!("{stored}.txt"), &arguments));
     }
     for name in DRAWN {
         let path = folder().join(format!("draw-{name}.svg"));
