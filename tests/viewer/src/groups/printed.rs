@@ -341,10 +341,10 @@ fn common(one: &Word, other: &Word) -> f64 {
 
 // The rows and the marks of a run, counted by what the independent reader says of it.
 fn check_count(findings: &mut Findings, printed: &[Printed], bytes: &[u8]) {
-    if Format::of(bytes) != Format::Abif {
+    let contents = Contents::of(bytes, false, None);
+    if Format::of(bytes) != Format::Abif || contents.range.length == 0 {
         return;
     }
-    let contents = Contents::of(bytes, false, None);
     let rows = contents.range.rows() - contents.folded();
     let words = || printed.iter().flat_map(|sheet| &sheet.words);
     let count = |text: &str| words().filter(|word| word.text == text).count();

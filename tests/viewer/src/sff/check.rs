@@ -96,6 +96,25 @@ fn check_flows(findings: &mut Findings, root: &Element, bytes: &[u8], flows: usi
         findings.check(fits, || format!("{flow:?} for flow {}", index + 1));
     }
     check_heights(findings, &found);
+    for (index, row) in of_class(root, "row").into_iter().enumerate() {
+        let first = FIXED_HEADER + FLOWS_IN_A_ROW * index;
+        let end = (first + FLOWS_IN_A_ROW).min(FIXED_HEADER + flows);
+        check_flow_letters(findings, row, &bytes[first..end]);
+    }
+}
+
+// Each flow's letter stands below its bar.
+fn check_flow_letters(findings: &mut Findings, row: &Element, letters: &[u8]) {
+    let mut texts = picture::all(row);
+    texts.retain(|it| it.name == "text" && !picture::has_class(it, "letter"));
+    for (index, &letter) in letters.iter().enumerate() {
+        let mut below = texts
+            .iter()
+            .filter(|it| number(it, "x") == Some(middle_of(index + 1)));
+        findings.check(below.any(|it| shows(&it.words, letter.into())), || {
+            format!("no {:?} below flow {}", char::from(letter), index + 1)
+        });
+    }
 }
 
 // Where a flow, from one, stands in its row.
