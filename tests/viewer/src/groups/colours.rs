@@ -1,6 +1,7 @@
 //! The colours of pictures: that they can be read on their ground, and told apart by all readers.
 
 use crate::abif::files::Fragments;
+use crate::apart::check_apart;
 use crate::drawing::{draw, read, Input, Paper, Wish, PLAIN};
 use crate::findings::Findings;
 use crate::page::placed;
@@ -79,18 +80,26 @@ fn drawn(input: &Input, wish: Wish) -> Result<Element, String> {
 }
 
 fn check_file(findings: &mut Findings, input: &Input, wish: Wish) {
-    let read = drawn(input, wish).and_then(|root| Ok((Style::of(&root)?, root)));
-    let (style, root) = match read {
-        Ok(read) => read,
+    match drawn(input, wish) {
+        Ok(root) => check_looks(findings, &root),
+        Err(fault) => findings.check(false, || fault),
+    }
+}
+
+/// The checks of a picture's colours, and that its texts are apart.
+pub fn check_looks(findings: &mut Findings, root: &Element) {
+    let style = match Style::of(root) {
+        Ok(style) => style,
         Err(fault) => return findings.check(false, || fault),
     };
-    for page in pages(&root) {
+    for page in pages(root) {
         check_texts(findings, &style, page);
         check_strokes(findings, &style, page);
         check_marks(findings, &style, page);
     }
-    check_channels(findings, &style, &root);
-    check_legend(findings, &style, &root);
+    check_channels(findings, &style, root);
+    check_legend(findings, &style, root);
+    check_apart(findings, root);
 }
 
 // Every text can be read on what stands behind it, whatever that is.

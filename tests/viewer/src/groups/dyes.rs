@@ -1,7 +1,8 @@
 //! Channels of many dyes, with and without a base order, and runs of fragments.
 
 use crate::abif::files::{dye_channel, dye_count, shorts, string, Fragments, Items};
-use crate::drawing::{check_all, Input, Wish, PLAIN};
+use crate::apart::check_apart;
+use crate::drawing::{check_all, check_all_with, Input, Wish, PLAIN};
 use compare::abif::generate::{plain_file, Content, Order};
 use compare::abif::reader::Tag;
 use compare::report::Group;
@@ -46,9 +47,9 @@ pub fn fragments(group: &mut Group) {
             inputs.push(Input::new(name, run.bytes(Order::DirectoryLast)));
         }
     }
-    check_all(group, &inputs, PLAIN);
-    check_all(group, &inputs, Wish::points(50));
-    check_all(group, &inputs, Wish::points(1700));
+    for wish in [PLAIN, Wish::points(50), Wish::points(1700)] {
+        check_all_with(group, &inputs, wish, check_apart);
+    }
     check_all(group, &almost(), PLAIN);
 }
 

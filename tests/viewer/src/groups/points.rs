@@ -1,7 +1,8 @@
 //! Rows of few points and of very many, more rows than are drawn, and letters that are too close.
 
 use crate::abif::files::{lettered, run, Fragments};
-use crate::drawing::{check_all, Input, Wish, PLAIN};
+use crate::apart::check_apart;
+use crate::drawing::{check_all, check_all_with, Input, Wish, PLAIN};
 use crate::sff::files::stretches;
 use compare::abif::generate::Order;
 use compare::report::Group;
@@ -44,7 +45,7 @@ pub fn points(group: &mut Group) {
         ),
     ];
     for points in POINTS {
-        check_all(group, &inputs, Wish::points(points));
+        check_all_with(group, &inputs, Wish::points(points), check_apart);
     }
     many_rows(group);
     crowded(group);
