@@ -1,7 +1,7 @@
 //! Drawing a file, and the checks of all that comes of it.
 
 use crate::findings::Findings;
-use crate::picture::{self, is_or_shortened, of_class, pages};
+use crate::picture::{self, is_or_shortened, of_class, pages, Said};
 use crate::program::{Output, Program};
 use crate::scratch::Scratch;
 use crate::verdict::{self, Format};
@@ -291,7 +291,7 @@ fn check_unknown(findings: &mut Findings, root: &Element, bytes: &[u8]) -> bool 
         root,
         bytes,
         &picture::Parts::new(),
-        str::to_string,
+        |part, refusal| Said::of(part.to_string(), refusal),
     );
     let drawn = [
         "row", "trace", "letter", "quality", "flow", "clipped", "snps",

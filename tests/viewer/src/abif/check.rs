@@ -7,7 +7,7 @@ use super::lines::{check_lines, traces};
 use super::scale::check_scales;
 use super::told::check_told;
 use crate::findings::Findings;
-use crate::picture::{self, grouped, number, of_class};
+use crate::picture::{self, grouped, number, of_class, Said};
 use crate::verdict;
 use crate::xml::Element;
 use std::collections::BTreeSet;
@@ -30,8 +30,8 @@ pub fn check(
     points: Option<u64>,
 ) -> bool {
     let contents = Contents::of(bytes, raw, points);
-    let label = |part: &str| label_of(&contents, part);
-    picture::check_frame(findings, root, bytes, &contents.parts, label);
+    let said = |part: &str, refusal| Said::of(label_of(&contents, part), refusal);
+    picture::check_frame(findings, root, bytes, &contents.parts, said);
     let rows = rows(findings, root, &contents);
     let is_refused = verdict::refused(bytes).is_some();
     for row in &rows {

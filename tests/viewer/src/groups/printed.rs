@@ -74,7 +74,7 @@ fn labelled_files() -> Vec<Input> {
         .iter()
         .flat_map(|name| named_files(name))
         .collect();
-    let dense: Vec<i16> = (0..250).map(|index| 5 * index + 1).collect();
+    let dense: Vec<i16> = (0..240).map(|index| 2 * index + 1).collect();
     let levels = [30_000, 10, 0, -10];
     files.push(Input::new("dense.ab1", lettered(1400, &dense)));
     files.push(Input::new(

@@ -2,10 +2,11 @@
 
 use super::places::{check_places, Places};
 use crate::findings::Findings;
-use crate::picture::{self, number, of_class, part, Parts};
+use crate::picture::{self, number, of_class, part, Parts, Said};
+use crate::sentences;
 use crate::verdict;
 use crate::xml::Element;
-use compare::gtc::reader::{lookup, Snp, SnpArrays};
+use compare::gtc::reader::{ids, lookup, Snp, SnpArrays};
 use compare::little_endian::u16_at;
 use compare::refusal::Refusal;
 use std::collections::BTreeMap;
@@ -103,8 +104,11 @@ pub fn check(findings: &mut Findings, root: &Element, bytes: &[u8]) -> bool {
     let refused = ARRAYS.map(|(id, _)| lookup(bytes, id).err().map(|refusal| part(id, refusal)));
     let mut parts: Parts = refused.into_iter().flatten().collect();
     parts.extend(contents.refusal.map(|refusal| part(SNPS, refusal)));
-    let label = |part: &str| label_of(&contents, part);
-    picture::check_frame(findings, root, bytes, &parts, label);
+    let said = |part: &str, refusal| Said {
+        label: label_of(&contents, part),
+        words: words_of(bytes, part, refusal),
+    };
+    picture::check_frame(findings, root, bytes, &parts, said);
     check_counts(findings, root, &contents);
     check_places(findings, root, &contents.places);
     check_forbidden(findings, root, &contents);
@@ -127,6 +131,22 @@ fn label_of(contents: &Contents, part: &str) -> String {
     let [forbidden, all] = [contents.forbidden, drawn + contents.forbidden];
     let [forbidden, all] = [forbidden, all].map(|count| picture::grouped(count as i64));
     format!("{forbidden} of {all} SNPs")
+}
+
+// An array that stands in the table may be refused for want of the number of SNPs; the SNPs are refused
+// as the first array that is.
+fn words_of(bytes: &[u8], part: &str, refusal: u64) -> &'static str {
+    let mut arrays = ARRAYS.iter().map(|(id, _)| *id);
+    let id = match part.parse() {
+        Ok(id) => Some(id),
+        Err(_) => arrays.find(|&id| lookup(bytes, id).is_err()),
+    };
+    let places = ids(bytes).into_iter().filter(|&other| Some(other) == id);
+    match (places.count(), refusal) {
+        (1, 7) => "needs the number of SNPs, which is not in this file",
+        (1, 8) => "needs the number of SNPs, which stands in the file twice",
+        _ => sentences::words(refusal),
+    }
 }
 
 // No marks of no SNPs are as good as none.

@@ -2,7 +2,7 @@
 
 use crate::abif::shows;
 use crate::findings::Findings;
-use crate::picture::{self, number, of_class, part, Parts};
+use crate::picture::{self, number, of_class, part, Parts, Said};
 use crate::verdict;
 use crate::xml::Element;
 use compare::big_endian::u16_at;
@@ -26,7 +26,8 @@ pub fn check(findings: &mut Findings, root: &Element, bytes: &[u8], wanted: u64)
     parts.extend(header.err().map(|refusal| part("header", refusal)));
     let name = format!("read {wanted}");
     parts.extend(read.as_ref().err().map(|&refusal| part(name, refusal)));
-    picture::check_frame(findings, root, bytes, &parts, label_of);
+    let said = |part: &str, refusal| Said::of(label_of(part), refusal);
+    picture::check_frame(findings, root, bytes, &parts, said);
     let is_refused = verdict::refused(bytes).is_some();
     picture::check_mark(findings, root, read.is_ok(), is_refused);
     match (header, &read) {
