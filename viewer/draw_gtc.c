@@ -314,7 +314,7 @@ static void draw_plot(void *subject, uint64_t index, int64_t top) {
     int64_t y = top + PLOT_GAP;
     (void)index;
     if (scatter->count == 0) {
-        struct box box = {PLOT_LEFT, y, PLOT_SIZE, PLOT_SIZE};
+        struct box box = {PLOT_LEFT, y, PLOT_WIDTH, PLOT_SIZE};
         draw_refused(scatter->picture, refused_snps(scatter), box);
         return;
     }

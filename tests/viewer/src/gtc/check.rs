@@ -1,12 +1,12 @@
 //! The checks of a GTC file's picture.
 
 use super::places::{check_places, Places};
+use super::refusals;
 use crate::findings::Findings;
 use crate::picture::{self, number, of_class, part, Parts, Said};
-use crate::sentences;
 use crate::verdict;
 use crate::xml::Element;
-use compare::gtc::reader::{ids, lookup, Snp, SnpArrays};
+use compare::gtc::reader::{lookup, Snp, SnpArrays};
 use compare::little_endian::u16_at;
 use compare::refusal::Refusal;
 use std::collections::BTreeMap;
@@ -133,19 +133,10 @@ fn label_of(contents: &Contents, part: &str) -> String {
     format!("{forbidden} of {all} SNPs")
 }
 
-// An array that stands in the table may be refused for want of the number of SNPs; the SNPs are refused
-// as the first array that is.
 fn words_of(bytes: &[u8], part: &str, refusal: u64) -> &'static str {
-    let mut arrays = ARRAYS.iter().map(|(id, _)| *id);
-    let id = match part.parse() {
-        Ok(id) => Some(id),
-        Err(_) => arrays.find(|&id| lookup(bytes, id).is_err()),
-    };
-    let places = ids(bytes).into_iter().filter(|&other| Some(other) == id);
-    match (places.count(), refusal) {
-        (1, 7) => "needs the number of SNPs, which is not in this file",
-        (1, 8) => "needs the number of SNPs, which stands in the file twice",
-        _ => sentences::words(refusal),
+    match part.parse() {
+        Ok(id) => refusals::words(bytes, id, refusal),
+        Err(_) => refusals::words_of_snps(bytes, refusal),
     }
 }
 
