@@ -244,5 +244,5 @@ void draw_refused_channel(struct chart *chart, int channel, struct box box) {
     char base = chart->run->bases[channel];
     char label[32];
     snprintf(label, sizeof label, base != 0 ? "%s, base %c" : "%s", series->tag, base);
-    draw_refused(chart->picture, (struct refused){series->tag, label, 0, series->refusal}, box);
+    draw_refused(chart->picture, (struct refused){series->tag, label, 0, series->refusal, NULL}, box);
 }

@@ -77,7 +77,7 @@ static void draw_part(struct chart *chart, const struct series *part, struct box
     struct svg *svg = &chart->picture->svg;
     const struct run *run = chart->run;
     if (part->refusal != 0) {
-        draw_refused(chart->picture, (struct refused){part->tag, part->tag, 0, part->refusal}, box);
+        draw_refused(chart->picture, (struct refused){part->tag, part->tag, 0, part->refusal, NULL}, box);
         return;
     }
     svg_format(svg, "<text x=\"%" PRId64 "\" y=\"%" PRId64 "\"><tspan font-weight=\"bold\">%s</tspan> %s",

@@ -5,6 +5,7 @@
 #include "progress.h"
 #include "scale.h"
 #include "sheet.h"
+#include "table.h"
 #include "text.h"
 #include "words.h"
 
@@ -22,13 +23,13 @@ enum {
     LEGEND_LEFT = PLOT_LEFT + PLOT_SIZE + 40
 };
 
-/* The parts in the order in which a SNP's record is looked up. */
-enum { GENOTYPES_PART, CALLS_PART, SCORES_PART, X_PART, Y_PART, PARTS };
+/* The parts that are the intensities, among the arrays of the SNPs. */
+enum { X_PART = 3, Y_PART = 4 };
 
 /* A GTC file's picture: how many SNPs of each class there are, and where. */
 struct scatter {
     struct picture *picture;
-    jt_item parts[PARTS];
+    jt_item parts[SNP_ARRAYS];
     uint64_t refusal;   /* of all the SNPs' records */
     uint64_t forbidden; /* the records that are refused by themselves */
     char label[80];     /* what of the SNPs is refused */
@@ -40,8 +41,6 @@ struct scatter {
     int64_t top;     /* of both scales, once the highest intensity is known */
     uint64_t *taken; /* for each pixel, a bit for each class that has a mark there */
 };
-
-static const uint16_t IDS[PARTS] = {1002, 1003, 1004, 1000, 1001};
 
 /* What is done with a SNP: it is counted, or marked in its place. */
 typedef void see_snp(struct scatter *scatter, uint64_t class, uint64_t x, uint64_t y);
@@ -114,8 +113,8 @@ static void see_snps(struct scatter *scatter, see_snp *see) {
 static void read_snps(struct scatter *scatter) {
     enum { LOWEST_TOP = 100 };
     const struct file *file = scatter->picture->file;
-    for (int i = 0; i < PARTS; i++) {
-        scatter->parts[i] = jt_gtc_lookup(file->bytes, file->length, IDS[i]);
+    for (int i = 0; i < SNP_ARRAYS; i++) {
+        scatter->parts[i] = jt_gtc_lookup(file->bytes, file->length, SNP_ARRAY_IDS[i]);
     }
     see_snps(scatter, count_snp);
     scatter->top = round_above(scatter->highest > LOWEST_TOP ? scatter->highest : LOWEST_TOP);
@@ -214,11 +213,12 @@ static void draw_axes(struct scatter *scatter) {
 /* The records that are refused: some for what stands in them, or all. */
 static struct refused refused_snps(struct scatter *scatter) {
     if (scatter->forbidden == 0) {
-        return (struct refused){"SNPs", "SNPs", 0, scatter->refusal};
+        const char *words = gtc_snps_words(scatter->picture->file, scatter->refusal);
+        return (struct refused){"SNPs", "SNPs", 0, scatter->refusal, words};
     }
     snprintf(scatter->label, sizeof scatter->label, "%s of %s SNPs", with_commas(scatter->forbidden).text,
              with_commas(scatter->forbidden + scatter->count).text);
-    return (struct refused){"SNPs", scatter->label, scatter->forbidden, FORBIDDEN_VALUE};
+    return (struct refused){"SNPs", scatter->label, scatter->forbidden, FORBIDDEN_VALUE, NULL};
 }
 
 /* Whether two classes have the same mark in the same colour: as many B among their letters, for their number. */
@@ -281,13 +281,14 @@ static void draw_legend(struct scatter *scatter, int64_t y) {
 static void draw_part(struct scatter *scatter, uint64_t part, struct box box) {
     struct svg *svg = &scatter->picture->svg;
     const jt_item *item = &scatter->parts[part];
-    const char *name = gtc_row_of(IDS[part])->name;
+    const char *name = gtc_row_of(SNP_ARRAY_IDS[part])->name;
     char id[8];
     char label[48];
-    snprintf(id, sizeof id, "%u", IDS[part]);
+    snprintf(id, sizeof id, "%u", SNP_ARRAY_IDS[part]);
     if (item->refusal != 0) {
         snprintf(label, sizeof label, "%s %s", id, name);
-        draw_refused(scatter->picture, (struct refused){id, label, 0, item->refusal}, box);
+        const char *words = gtc_refusal_words(scatter->picture->file, SNP_ARRAY_IDS[part], item->refusal);
+        draw_refused(scatter->picture, (struct refused){id, label, 0, item->refusal, words}, box);
         return;
     }
     svg_format(svg, "<text x=\"%" PRId64 "\" y=\"%" PRId64 "\"><tspan font-weight=\"bold\">%s</tspan> %s: ", box.x,
@@ -300,7 +301,7 @@ static void draw_part(struct scatter *scatter, uint64_t part, struct box box) {
 static void draw_parts_line(void *subject, uint64_t index, int64_t y) {
     struct scatter *scatter = subject;
     struct box box = {PICTURE_MARGIN, y, PICTURE_WIDTH - 2 * PICTURE_MARGIN, PART_HEIGHT - 4};
-    if (index < PARTS) {
+    if (index < SNP_ARRAYS) {
         draw_part(scatter, index, box);
     } else {
         draw_refused(scatter->picture, refused_snps(scatter), box);
@@ -313,7 +314,7 @@ static void draw_plot(void *subject, uint64_t index, int64_t top) {
     int64_t y = top + PLOT_GAP;
     (void)index;
     if (scatter->count == 0) {
-        struct box box = {PLOT_LEFT, y, PLOT_SIZE, PLOT_SIZE};
+        struct box box = {PLOT_LEFT, y, PLOT_WIDTH, PLOT_SIZE};
         draw_refused(scatter->picture, refused_snps(scatter), box);
         return;
     }
@@ -337,7 +338,7 @@ bool draw_gtc(struct picture *picture) {
     scatter->taken = take(PIXELS, sizeof *scatter->taken);
     read_snps(scatter);
     bool answered = scatter->refusal == 0 && scatter->forbidden == 0;
-    for (uint64_t i = 0; i < (answered ? PARTS : PARTS + 1); i++) {
+    for (uint64_t i = 0; i < (answered ? SNP_ARRAYS : SNP_ARRAYS + 1); i++) {
         sheet_add(sheet, PART_HEIGHT, draw_parts_line, i);
     }
     sheet_add(sheet, PLOT_GAP + PLOT_SIZE + AXIS_HEIGHT, draw_plot, 0);

@@ -288,14 +288,15 @@ static void draw_refused_header(void *subject, uint64_t index, int64_t y) {
     struct flowgram *flowgram = subject;
     struct box box = {PICTURE_MARGIN, y, PICTURE_WIDTH - 2 * PICTURE_MARGIN, PLOT_HEIGHT / 3};
     (void)index;
-    draw_refused(flowgram->picture, (struct refused){"header", "header", 0, flowgram->header.refusal}, box);
+    draw_refused(flowgram->picture, (struct refused){"header", "header", 0, flowgram->header.refusal, NULL}, box);
 }
 
 static void draw_refused_read(void *subject, uint64_t index, int64_t y) {
     struct flowgram *flowgram = subject;
     struct box box = {PICTURE_MARGIN, y, PICTURE_WIDTH - 2 * PICTURE_MARGIN, PLOT_HEIGHT};
     (void)index;
-    draw_refused(flowgram->picture, (struct refused){flowgram->part, flowgram->part, 0, flowgram->read.refusal}, box);
+    draw_refused(flowgram->picture, (struct refused){flowgram->part, flowgram->part, 0, flowgram->read.refusal, NULL},
+                 box);
 }
 
 /* The header and the read, each as a hatched box where its own call refuses it. */

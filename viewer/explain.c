@@ -109,14 +109,10 @@ static void name_id(char name[ITEM_LENGTH], uint16_t id) {
     snprintf(name, ITEM_LENGTH, "%s (%u)", row != NULL ? row->name : "unknown", id);
 }
 
-static const uint16_t ARRAYS[] = {1002, 1003, 1004, 1000, 1001};
-
-enum { ARRAY_COUNT = sizeof ARRAYS / sizeof ARRAYS[0] };
-
 static bool is_array(const char *item) {
-    for (int i = 0; i < ARRAY_COUNT; i++) {
+    for (int i = 0; i < SNP_ARRAYS; i++) {
         char name[ITEM_LENGTH];
-        name_id(name, ARRAYS[i]);
+        name_id(name, SNP_ARRAY_IDS[i]);
         if (strcmp(name, item) == 0) {
             return true;
         }
@@ -124,12 +120,13 @@ static bool is_array(const char *item) {
     return false;
 }
 
-/* The arrays whose refusals are of this kind. */
-static struct names arrays_that(const struct file *file, bool (*is_so)(uint64_t refusal)) {
+/* The arrays that are refused: those that stand in the table of contents, or those that do not. */
+static struct names refused_arrays(const struct file *file, bool in_table) {
     struct names names = {.count = 0};
-    for (int i = 0; i < ARRAY_COUNT; i++) {
-        name_id(names.list[names.count], ARRAYS[i]);
-        names.count += is_so(jt_gtc_lookup(file->bytes, file->length, ARRAYS[i]).refusal);
+    for (int i = 0; i < SNP_ARRAYS; i++) {
+        bool refused = jt_gtc_lookup(file->bytes, file->length, SNP_ARRAY_IDS[i]).refusal != 0;
+        name_id(names.list[names.count], SNP_ARRAY_IDS[i]);
+        names.count += refused && (gtc_times(file, SNP_ARRAY_IDS[i]) > 0) == in_table;
     }
     return names;
 }
@@ -137,12 +134,12 @@ static struct names arrays_that(const struct file *file, bool (*is_so)(uint64_t 
 /* What of a GTC file is there all the same: of the arrays of its SNPs. */
 static void say_arrays(struct explanation *explanation, const struct file *file, const jt_verdict *verdict,
                        const char *item) {
-    struct names unread = arrays_that(file, is_unread);
-    struct names missing = arrays_that(file, is_missing);
+    struct names unread = refused_arrays(file, true);
+    struct names missing = refused_arrays(file, false);
     if (verdict->refusal == CUT_SHORT && !is_array(item)) {
         say(explanation, "%s could not be read.", item);
     }
-    if (missing.count == ARRAY_COUNT) {
+    if (missing.count == SNP_ARRAYS) {
         return;
     }
     if (unread.count + missing.count == 0) {

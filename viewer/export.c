@@ -70,9 +70,9 @@ void export_lacks(struct export *export, const char *reason) {
     export_begin_progress(export);
 }
 
-void export_lacks_refused(struct export *export, const char *what, uint64_t refusal) {
+void export_lacks_refused(struct export *export, const char *what, const char *words, uint64_t refusal) {
     char reason[128];
-    snprintf(reason, sizeof reason, "%s: %s (refused %" PRIu64 ")", what, refusal_words(refusal), refusal);
+    snprintf(reason, sizeof reason, "%s: %s (refused %" PRIu64 ")", what, words, refusal);
     export_lacks(export, reason);
 }
 

@@ -31,7 +31,7 @@ static uint64_t first_unwritable(const struct file *file, const struct series *s
 
 static bool is_there(struct export *export, const struct series *series) {
     if (series->refusal != 0) {
-        export_lacks_refused(export, series->tag, series->refusal);
+        export_lacks_refused(export, series->tag, refusal_words(series->refusal), series->refusal);
     }
     return series->refusal == 0;
 }
@@ -157,7 +157,8 @@ static void export_channels(struct export *export) {
     run_read(&run, export->file, export->options->raw);
     int refused = refused_channels(&run);
     if (refused == run.channel_count) {
-        export_lacks_refused(export, run.channels[0].tag, run.channels[0].refusal);
+        export_lacks_refused(export, run.channels[0].tag, refusal_words(run.channels[0].refusal),
+                             run.channels[0].refusal);
         return;
     }
     if (!export_opens(export)) {

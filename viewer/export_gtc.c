@@ -2,6 +2,7 @@
 #include "memory.h"
 #include "numbers.h"
 #include "progress.h"
+#include "table.h"
 #include "words.h"
 
 #include <inttypes.h>
@@ -39,7 +40,7 @@ static void export_snps(struct export *export, uint64_t *numbers, uint64_t at_on
     uint64_t count = jt_gtc_lookup(file->bytes, file->length, GENOTYPES).count;
     jt_listed listed = jt_gtc_snps(file->bytes, file->length, first, numbers, JT_SNP_NUMBERS * at_once);
     if (listed.refusal != 0) {
-        export_lacks_refused(export, "SNPs", listed.refusal);
+        export_lacks_refused(export, "SNPs", gtc_snps_words(file, listed.refusal), listed.refusal);
         return;
     }
     if (export_opens(export)) {

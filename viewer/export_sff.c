@@ -2,6 +2,7 @@
 #include "numbers.h"
 #include "progress.h"
 #include "reads.h"
+#include "words.h"
 
 #include <inttypes.h>
 
@@ -89,7 +90,7 @@ static bool export_read(struct export *export, uint64_t k, const struct jt_sff_r
     if (read->refusal != 0) {
         char what[WHAT_LENGTH];
         snprintf(what, sizeof what, "read %" PRIu64, k);
-        export_lacks_refused(export, what, read->refusal);
+        export_lacks_refused(export, what, refusal_words(read->refusal), read->refusal);
         return true;
     }
     struct bases bases = bases_of(export, read);
@@ -126,7 +127,7 @@ void export_sff(struct export *export) {
     uint64_t k = export->options->read;
     struct jt_sff_header header = jt_sff_header(file->bytes, file->length);
     if (header.refusal != 0) {
-        export_lacks_refused(export, "header", header.refusal);
+        export_lacks_refused(export, "header", refusal_words(header.refusal), header.refusal);
         return;
     }
     if (export->options->one_read) {

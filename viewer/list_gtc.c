@@ -40,7 +40,7 @@ static bool print_entry(const struct file *file, uint16_t id) {
         print_value(file, row, &item);
     } else {
         printf("  ");
-        print_refusal(item.refusal);
+        print_refusal_as(gtc_refusal_words(file, id, item.refusal), item.refusal);
     }
     putchar('\n');
     return item.refusal == 0;

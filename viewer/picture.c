@@ -34,8 +34,9 @@ void draw_refused(struct picture *picture, struct refused refused, struct box bo
                "x=\"%" PRId64 "\" y=\"%" PRId64 "\" width=\"%" PRId64 "\" height=\"%" PRId64
                "\" fill=\"url(#hatch)\" stroke=\"#111\"/>",
                box.x, box.y, box.width, box.height);
+    const char *said = refused.words != NULL ? refused.words : refusal_words(refused.refusal);
     snprintf(words, sizeof words, "%s: %s (refused %" PRIu64 ")", refused.label,
-             picture->lost ? "cannot be found" : refusal_words(refused.refusal), refused.refusal);
+             picture->lost ? "cannot be found" : said, refused.refusal);
     draw_words(picture, "box", words, box.x + BOX_EDGE, box.y + box.height / 2 + 5,
                (unsigned)(box.width - 2 * BOX_EDGE));
 }

@@ -32,6 +32,7 @@ struct refused {
     const char *label; /* what it is called in the picture */
     uint64_t count;    /* how many of them, where that is to be told, else 0 */
     uint64_t refusal;
+    const char *words; /* what is said of it, NULL for what the refusal says by itself */
 };
 
 /* A hatched box in its place, with the refusal in it. */

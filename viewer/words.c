@@ -99,8 +99,12 @@ void genotype_name(int code, int ploidy, int b_alleles, char name[GENOTYPE_LENGT
     name[ploidy] = '\0';
 }
 
+void print_refusal_as(const char *words, uint64_t refusal) {
+    printf("%s (refused %" PRIu64 ")", words, refusal);
+}
+
 void print_refusal(uint64_t refusal) {
-    printf("%s (refused %" PRIu64 ")", refusal_words(refusal), refusal);
+    print_refusal_as(refusal_words(refusal), refusal);
 }
 
 void print_refused(const char *what, uint64_t refusal) {

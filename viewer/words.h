@@ -20,8 +20,9 @@ enum {
 /* What a refusal's number says of a part of a file, in plain words. */
 const char *refusal_words(uint64_t refusal);
 
-/* Prints a refusal in words and its number, and as a line of its own with what is refused. */
+/* Prints a refusal in its words, or in those given, and its number; and as a line of its own with what is refused. */
 void print_refusal(uint64_t refusal);
+void print_refusal_as(const char *words, uint64_t refusal);
 void print_refused(const char *what, uint64_t refusal);
 
 /* Prints to stderr why a file cannot be read or written. */

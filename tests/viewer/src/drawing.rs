@@ -1,7 +1,7 @@
 //! Drawing a file, and the checks of all that comes of it.
 
 use crate::findings::Findings;
-use crate::picture::{self, is_or_shortened, of_class, pages};
+use crate::picture::{self, is_or_shortened, of_class, pages, Said};
 use crate::program::{Output, Program};
 use crate::scratch::Scratch;
 use crate::verdict::{self, Format};
@@ -222,6 +222,7 @@ pub fn check_picture(
     });
     check_name(findings, &root, file);
     check_sizes(findings, &root);
+    check_styles(findings, &root);
     match Format::of(bytes) {
         Format::Abif => abif::check::check(findings, &root, bytes, wish.raw, wish.points),
         Format::Sff => sff::check::check(findings, &root, bytes, wish.read.unwrap_or(1)),
@@ -256,6 +257,33 @@ fn check_sizes(findings: &mut Findings, root: &Element) {
     }
 }
 
+// A picture that is no page is made as wide as the paper, and pages say what they are.
+fn check_styles(findings: &mut Findings, root: &Element) {
+    let style: String = picture::all(root)
+        .into_iter()
+        .filter(|it| it.name == "style")
+        .map(|style| style.words.as_str())
+        .collect();
+    if root.name == "svg" {
+        return findings.check(style.contains("@media print{"), || {
+            format!("no rule for printing in {style:?}")
+        });
+    }
+    let head = root.children.iter().find(|it| it.name == "head");
+    let inside = head.map_or(&[][..], |head| &head.children);
+    let mut names: Vec<&str> = inside.iter().map(|it| it.name.as_str()).collect();
+    names.dedup();
+    findings.check(names == ["meta", "title", "style"], || {
+        format!("the head has {names:?}")
+    });
+    let title = inside.iter().find(|it| it.name == "title");
+    let title = title.map_or("", |title| &title.words);
+    let name = root.attribute("data-name").unwrap_or("");
+    findings.check(title.contains(name), || {
+        format!("the title is {title:?} for {name:?}")
+    });
+}
+
 // Nothing is drawn of a file that is of no format.
 fn check_unknown(findings: &mut Findings, root: &Element, bytes: &[u8]) -> bool {
     picture::check_frame(
@@ -263,7 +291,7 @@ fn check_unknown(findings: &mut Findings, root: &Element, bytes: &[u8]) -> bool 
         root,
         bytes,
         &picture::Parts::new(),
-        str::to_string,
+        |part, refusal| Said::of(part.to_string(), refusal),
     );
     let drawn = [
         "row", "trace", "letter", "quality", "flow", "clipped", "snps",

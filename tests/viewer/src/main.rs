@@ -2,6 +2,7 @@
 //! stores its outputs anew: `viewer store`.
 
 mod abif;
+mod apart;
 mod banner;
 mod drawing;
 mod findings;

@@ -87,13 +87,27 @@ pub fn hatched(root: &Element) -> Parts {
         .collect()
 }
 
-/// The checks of the root, the banner and the hatched boxes; `label` tells what a part's boxes call it.
+/// What a box says of its part: what the part is called, and why it is refused.
+pub struct Said {
+    pub label: String,
+    pub words: &'static str,
+}
+
+impl Said {
+    pub fn of(label: String, refusal: u64) -> Said {
+        let words = sentences::words(refusal);
+        Said { label, words }
+    }
+}
+
+/// The checks of the root, the banner and the hatched boxes; `said` tells what a part's boxes say of it
+/// and its refusal.
 pub fn check_frame(
     findings: &mut Findings,
     root: &Element,
     bytes: &[u8],
     parts: &Parts,
-    label: impl Fn(&str) -> String,
+    said: impl Fn(&str, u64) -> Said,
 ) {
     check_root(findings, root, bytes);
     banner::check(findings, root, bytes);
@@ -103,7 +117,13 @@ pub fn check_frame(
     });
     check_hatching(findings, root, !parts.is_empty());
     let is_lost = nothing_is_found(bytes);
-    check_words(findings, root, is_lost, label);
+    check_words(findings, root, |part, refusal| {
+        let mut said = said(part, refusal);
+        if is_lost {
+            said.words = "cannot be found";
+        }
+        said
+    });
 }
 
 // Whether the file tells not even where its parts would stand.
@@ -117,12 +137,7 @@ fn nothing_is_found(bytes: &[u8]) -> bool {
 }
 
 // Each box has its refusal in words, which do not run out of it.
-fn check_words(
-    findings: &mut Findings,
-    root: &Element,
-    is_lost: bool,
-    label: impl Fn(&str) -> String,
-) {
+fn check_words(findings: &mut Findings, root: &Element, said: impl Fn(&str, u64) -> Said) {
     let boxes = of_class(root, "refused");
     let texts = of_class(root, "box");
     findings.check(boxes.len() == texts.len(), || {
@@ -130,12 +145,9 @@ fn check_words(
     });
     for (hatched, text) in boxes.iter().zip(texts) {
         let refusal: u64 = number(hatched, "data-refusal").unwrap_or(0);
-        let words = match is_lost {
-            true => "cannot be found",
-            false => sentences::words(refusal),
-        };
         let part = hatched.attribute("data-part").unwrap_or("");
-        let expected = format!("{}: {words} (refused {refusal})", label(part));
+        let Said { label, words } = said(part, refusal);
+        let expected = format!("{label}: {words} (refused {refusal})");
         findings.check(text.words == expected, || {
             format!("{part} says {:?} and not {expected:?}", text.words)
         });
@@ -147,10 +159,18 @@ fn check_room(findings: &mut Findings, hatched: &Element, text: &Element) {
     let end = |element: &Element, width: f64| Some(number::<f64>(element, "x")? + width);
     let width = number(hatched, "width").unwrap_or(0.0);
     let words = text.words.chars().count() as f64 * LETTER_WIDTH;
-    let fits = end(text, words).zip(end(hatched, width));
-    findings.check(fits.is_some_and(|(text, hatched)| text <= hatched), || {
+    let ends = end(text, words).zip(end(hatched, width));
+    let fits = ends.is_some_and(|(text, hatched)| text <= hatched);
+    findings.check(fits && is_beside(text, hatched), || {
         format!("{:?} in {width} pixels", text.words)
     });
+}
+
+/// Whether the text's foot stands between a box's top and its foot.
+pub fn is_beside(text: &Element, hatched: &Element) -> bool {
+    let size = |name| number::<f64>(hatched, name).unwrap_or(f64::NAN);
+    let foot = number::<f64>(text, "y").unwrap_or(f64::NAN);
+    (size("y")..=size("y") + size("height")).contains(&foot)
 }
 
 fn check_root(findings: &mut Findings, root: &Element, bytes: &[u8]) {

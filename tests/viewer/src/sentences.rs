@@ -2,6 +2,7 @@
 
 use crate::abif::contents::{Channel, Contents};
 use crate::gtc::listed::name_of;
+use crate::gtc::refusals::ARRAYS;
 use crate::picture::grouped;
 use crate::verdict::{self, Format};
 use crate::words::shown;
@@ -22,7 +23,6 @@ const ABIF_HEADER: usize = 128;
 const GTC_HEADER: usize = 8;
 
 /// The arrays of the SNPs, in the order that they are told in.
-const ARRAYS: [u16; 5] = [1002, 1003, 1004, 1000, 1001];
 
 /// A headline, which a whole file has not, and what stands behind it.
 pub struct Explanation {
@@ -230,15 +230,15 @@ fn gtc_item(id: u16) -> String {
 fn channels(bytes: &[u8], refusal: Refusal, item: &str) -> String {
     let channels = Contents::of(bytes, false, None).channels;
     let is_channel = channels.iter().any(|channel| channel.part == item);
-    let parts: Vec<Part> = channels
-        .iter()
-        .map(|channel| {
-            (
-                channel_name(channel),
-                channel.values.as_ref().err().copied(),
-            )
-        })
-        .collect();
+    let part = |channel: &Channel| {
+        let state = match channel.values {
+            Ok(_) => State::Read,
+            Err(Refusal::NotThere) => State::Missing,
+            Err(_) => State::Unread,
+        };
+        (channel_name(channel), state)
+    };
+    let parts: Vec<Part> = channels.iter().map(part).collect();
     let told = told_of(
         &parts,
         "Every channel could be read.",
@@ -256,22 +256,34 @@ fn channel_name(channel: &Channel) -> String {
 
 fn arrays(bytes: &[u8], refusal: Refusal, item: &str) -> String {
     let is_array = ARRAYS.iter().any(|&id| gtc_item(id) == item);
-    let parts = ARRAYS.map(|id| (gtc_item(id), lookup(bytes, id).err()));
+    let state = |id| match lookup(bytes, id) {
+        Ok(_) => State::Read,
+        Err(_) if ids(bytes).contains(&id) => State::Unread,
+        Err(_) => State::Missing,
+    };
+    let parts = ARRAYS.map(|id| (gtc_item(id), state(id)));
     let told = told_of(&parts, "Every array of the SNPs could be read.", ["", ""]);
     behind_the_item(refusal == Refusal::CutShort && !is_array, item, told)
 }
 
-/// A part's name, and what it is refused with.
-type Part = (String, Option<Refusal>);
+/// Whether a part could be read, could not, or is not in the file.
+#[derive(Clone, Copy, PartialEq, Eq)]
+enum State {
+    Read,
+    Unread,
+    Missing,
+}
+
+type Part = (String, State);
 
 // What is told of the parts: those that could not be read, and those that are not there; nothing where none is.
 fn told_of(parts: &[Part], all: &str, [one, many]: [&str; 2]) -> Vec<String> {
-    let named = |is_so: fn(Refusal) -> bool| {
-        let chosen = parts.iter().filter(|part| part.1.is_some_and(is_so));
+    let named = |state: State| {
+        let chosen = parts.iter().filter(|part| part.1 == state);
         chosen.map(|part| part.0.clone()).collect::<Vec<String>>()
     };
-    let missing = named(|refusal| refusal == Refusal::NotThere);
-    let unread = named(|refusal| refusal != Refusal::NotThere);
+    let missing = named(State::Missing);
+    let unread = named(State::Unread);
     if missing.len() == parts.len() {
         return Vec::new();
     }

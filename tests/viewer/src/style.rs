@@ -47,8 +47,12 @@ impl Style {
         Ok(Style { rules })
     }
 
-    /// What a property of the element is set to; rules come before its own attributes.
+    /// What a property of the element is set to: by its own style, by a rule, or by an attribute.
     pub fn own(&self, element: &Element, property: &str) -> Option<String> {
+        let own = settings(element.attribute("style").unwrap_or(""));
+        if let Some((_, value)) = own.into_iter().find(|(name, _)| name == property) {
+            return Some(value);
+        }
         let rules = self.rules.iter().filter(|rule| rule.is_for(element));
         let set = rules.filter_map(|rule| {
             let mut settings = rule.settings.iter();
@@ -103,15 +107,20 @@ fn rule(selector: &str, block: &str) -> Result<Rule, String> {
         return Err(format!("the selector {selector:?}"));
     }
     let some = |text: &str| Some(text.to_string()).filter(|it| !it.is_empty() && it != "*");
-    let settings = block
-        .split(';')
-        .filter_map(|setting| setting.split_once(':'));
-    let settings = settings.map(|(name, value)| (name.trim().into(), value.trim().into()));
     Ok(Rule {
         name: some(name),
         class: some(class),
-        settings: settings.collect(),
+        settings: settings(block),
     })
+}
+
+fn settings(block: &str) -> Vec<(String, String)> {
+    let settings = block
+        .split(';')
+        .filter_map(|setting| setting.split_once(':'));
+    settings
+        .map(|(name, value)| (name.trim().into(), value.trim().into()))
+        .collect()
 }
 
 /// A colour that is written by its numbers or is one of the few names that are known here.

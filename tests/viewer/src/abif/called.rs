@@ -68,13 +68,12 @@ impl Called {
         for (index, (&letter, &place)) in letters.iter().zip(places).enumerate() {
             let length = traced_length(channels, letter);
             let place = usize::try_from(place).unwrap_or(NOWHERE);
-            let row = row_of(place, length, range.points);
-            let is_left_out = range.left_out().is_some() && place < range.length;
-            if is_left_out && row >= range.rows() {
+            if place >= length {
+                placed.hidden += usize::from(!range.is_left_out(place));
                 continue;
             }
-            if place >= length {
-                placed.hidden += 1;
+            let row = row_of(place, length, range.points);
+            if row >= range.rows() {
                 continue;
             }
             placed.shown.push(Base {
@@ -91,9 +90,11 @@ impl Called {
 
 // How far all traces go that the letter stands for.
 fn traced_length(channels: &[Channel], letter: i64) -> usize {
-    let meant = meant_bases(letter);
-    let is_needed = |channel: &&Channel| channel.base.is_some_and(|base| meant.contains(base));
-    let lengths = channels.iter().filter(is_needed).map(Channel::length);
+    let lengths = meant_bases(letter).chars().map(|base| {
+        let mut channels = channels.iter();
+        let channel = channels.find(|channel| channel.base == Some(base));
+        channel.map_or(0, Channel::length)
+    });
     lengths.min().unwrap_or(0)
 }
 

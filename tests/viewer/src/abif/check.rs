@@ -1,12 +1,13 @@
 //! The checks of an ABIF file's picture.
 
+use super::axes::check_axes;
 use super::contents::Contents;
 use super::letters::check_letters;
 use super::lines::{check_lines, traces};
 use super::scale::check_scales;
 use super::told::check_told;
 use crate::findings::Findings;
-use crate::picture::{self, grouped, number, of_class};
+use crate::picture::{self, grouped, number, of_class, Said};
 use crate::verdict;
 use crate::xml::Element;
 use std::collections::BTreeSet;
@@ -29,13 +30,14 @@ pub fn check(
     points: Option<u64>,
 ) -> bool {
     let contents = Contents::of(bytes, raw, points);
-    let label = |part: &str| label_of(&contents, part);
-    picture::check_frame(findings, root, bytes, &contents.parts, label);
+    let said = |part: &str, refusal| Said::of(label_of(&contents, part), refusal);
+    picture::check_frame(findings, root, bytes, &contents.parts, said);
     let rows = rows(findings, root, &contents);
     let is_refused = verdict::refused(bytes).is_some();
     for row in &rows {
         check_row(findings, row, &contents);
         check_lines(findings, row, &contents);
+        check_axes(findings, row, &contents);
         check_ended(findings, row, &contents);
         let is_drawn = !traces(row.element).is_empty();
         picture::check_mark(findings, row.element, is_drawn, is_refused);
@@ -153,11 +155,19 @@ fn check_ended(findings: &mut Findings, row: &Row, contents: &Contents) {
     findings.check(found == told, || {
         format!("row {} says {found:?} and not {told:?}", row.index)
     });
+    check_lanes(findings, row, &boxes, &words);
+}
+
+// Each has a lane of its own below the plot, with its words in it.
+fn check_lanes(findings: &mut Findings, row: &Row, boxes: &[&Element], words: &[&Element]) {
     let height = number::<f64>(row.element, "data-height").unwrap_or(0.0);
     let is_below = |hatched: &&Element| number::<f64>(hatched, "y") >= Some(height);
     let places: BTreeSet<&str> = boxes.iter().filter_map(|it| it.attribute("y")).collect();
     let is_apart = boxes.iter().all(is_below) && places.len() == boxes.len();
     findings.check(is_apart, || format!("{boxes:?} share a lane or the plot"));
+    let mut both = boxes.iter().zip(words);
+    let fits = both.all(|(hatched, text)| picture::is_beside(text, hatched));
+    findings.check(fits, || format!("{words:?} are not in {boxes:?}"));
 }
 
 // The flat rows at the front of a run of fragments are told and not drawn.

@@ -93,24 +93,34 @@ fn fragment_points(random: &mut Random, front: usize, length: usize) -> Vec<i16>
     points
 }
 
-/// A run of four channels of the same length, with these letters at these places, all of them sure.
+/// A run of four channels of the same length, with letters at these places.
 pub fn lettered(length: usize, places: &[i16]) -> Vec<u8> {
+    lettered_channels(&[length; 4], places)
+}
+
+/// A run of channels of these lengths, with letters at these places.
+pub fn lettered_channels(lengths: &[usize], places: &[i16]) -> Vec<u8> {
     let mut random = Random::new(79);
+    let mut items = letters_at(places);
+    items.push((Tag::new(b"FWO_", 1), Content::listed(2, b"GATC".to_vec())));
+    for (number, &length) in (9..).zip(lengths) {
+        items.push((Tag::new(b"DATA", number), channel(&mut random, length)));
+    }
+    plain_file(&items, Order::DirectoryFirst).bytes()
+}
+
+/// Called letters at these places, one base after the other.
+pub fn letters_at(places: &[i16]) -> Items {
     let letters = b"GATC".iter().copied().cycle().take(places.len());
     let qualities = (0..places.len()).map(|index| (index % 50) as u8);
-    let mut items = vec![
-        (Tag::new(b"FWO_", 1), Content::listed(2, b"GATC".to_vec())),
+    vec![
         (Tag::new(b"PBAS", 1), Content::listed(2, letters.collect())),
         (Tag::new(b"PLOC", 1), shorts(places.iter().copied())),
         (
             Tag::new(b"PCON", 1),
             Content::listed(2, qualities.collect()),
         ),
-    ];
-    for number in 9..=12 {
-        items.push((Tag::new(b"DATA", number), channel(&mut random, length)));
-    }
-    plain_file(&items, Order::DirectoryFirst).bytes()
+    ]
 }
 
 /// A run whose channels have these lengths, with raw data too.

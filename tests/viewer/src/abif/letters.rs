@@ -4,7 +4,7 @@ use super::called::Base;
 use super::check::Row;
 use super::contents::{Contents, MOST_LETTERS};
 use crate::findings::Findings;
-use crate::picture::{number, of_class};
+use crate::picture::{grouped, number, of_class};
 use crate::xml::Element;
 
 /// How high a bar is at the top of its scale, where all bars stand, and what is cut off of a height.
@@ -49,7 +49,9 @@ fn check_crowded(findings: &mut Findings, row: &Row, count: usize) {
         .then_some(Some(count))
         .into_iter()
         .collect();
-    let is_told = crowded.iter().all(|text| !text.words.is_empty());
+    let is_told = crowded
+        .iter()
+        .all(|text| text.words.contains(&grouped(count as i64)));
     findings.check(found == expected && is_told, || {
         format!("row {}: {crowded:?} for {count} letters", row.index)
     });

@@ -1,5 +1,6 @@
 //! Pictures of ABIF files.
 
+mod axes;
 mod called;
 pub mod check;
 pub mod contents;

@@ -42,6 +42,11 @@ impl Range {
         (self.all_rows() > MOST_ROWS).then(|| (first, self.length - 1))
     }
 
+    pub fn is_left_out(&self, point: usize) -> bool {
+        self.left_out()
+            .is_some_and(|(first, last)| (first..=last).contains(&point))
+    }
+
     /// The number of the row's last point.
     pub fn last_point(&self, row: usize) -> usize {
         (self.points * (row + 1)).min(self.length.saturating_sub(1))

@@ -19,7 +19,7 @@ const LEAST_TOP: f64 = 100.0;
 pub struct Scale {
     top: f64,
     bottom: f64,
-    height: f64,
+    pub height: f64,
 }
 
 impl Scale {

@@ -19,6 +19,7 @@ pub fn check_told(findings: &mut Findings, root: &Element, bytes: &[u8], content
     }
     check_sample(findings, root, bytes, contents);
     check_notes(findings, &texts, contents);
+    check_dyes(findings, &texts, bytes);
 }
 
 fn check_channel(
@@ -92,6 +93,16 @@ fn check_sample(findings: &mut Findings, root: &Element, bytes: &[u8], contents:
     findings.check(fits, || {
         let sample = sample.map(cleaned);
         format!("the facts are {facts:?}, the sample is {sample:?}")
+    });
+}
+
+// That a file says of more dyes than are drawn is told.
+fn check_dyes(findings: &mut Findings, texts: &[&str], bytes: &[u8]) {
+    let told = first_number(bytes, b"Dye#", 1).filter(|&dyes| dyes > 16);
+    let mut notes = texts.iter().filter(|text| text.contains("Dye# 1"));
+    let is_told = |dyes| notes.any(|note| note.contains("16") && note.contains(&grouped(dyes)));
+    findings.check(told.is_none_or(is_told), || {
+        format!("nothing is told of {told:?} dyes")
     });
 }
 

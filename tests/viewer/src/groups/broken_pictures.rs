@@ -1,5 +1,6 @@
 //! Pictures that say something wrong, which the checks must catch.
 
+use super::colours::check_looks;
 use super::pages::check_pages;
 use crate::abif::files::{run, shorts, Fragments};
 use crate::drawing::{check_picture, draw, read, Paper, Wish, PLAIN};
@@ -127,6 +128,59 @@ const ALL: [(&str, Break); 9] = [
     ("an ampersand", |text| replaced(text, "</svg>", "&</svg>")),
 ];
 
+/// What readers cannot see or tell apart.
+const LOOKS: [(&str, Break); 6] = [
+    ("a text over another one", |text| {
+        before(
+            text,
+            "<text class=\"facts\"",
+            "<text x=\"24\" y=\"34\">over</text>",
+        )
+    }),
+    ("a text that is too light", |text| {
+        before(
+            text,
+            "<text class=\"facts\"",
+            "<text fill=\"#888\">light</text>",
+        )
+    }),
+    ("a black text in the banner", |text| {
+        let rule = text.find(".entry{")?;
+        let rest = replaced(&text[rule..], "fill:#fff", "fill:#000")?;
+        Some([&text[..rule], &rest].concat())
+    }),
+    ("a letter of another colour", |text| {
+        let from = text.find("class=\"letter\"")?;
+        let rest = replaced(&text[from..], "fill=\"#", "fill=\"#1")?;
+        Some([&text[..from], &rest].concat())
+    }),
+    ("two channels that look the same", |text| {
+        let from = text.find("data-part=\"DATA 9\" stroke=\"")?;
+        let look = text[from..]
+            .split_once("DATA 9\"")?
+            .1
+            .split_once(" points")?
+            .0;
+        let start = text.find("data-part=\"DATA 10\" stroke=\"")?;
+        let other = text[start..]
+            .split_once("DATA 10\"")?
+            .1
+            .split_once(" points")?
+            .0;
+        Some(text.replace(other, look))
+    }),
+    ("a legend that looks as another channel", |text| {
+        let from = text.find("data-part=\"DATA 9\" stroke=\"")?;
+        let dashes = text[from..].split_once(" stroke-dasharray=\"")?.1;
+        let dashes = dashes.split_once('"')?.0;
+        replaced(
+            text,
+            &format!("stroke-dasharray=\"{dashes}\""),
+            "stroke-dasharray=\"9 9\"",
+        )
+    }),
+];
+
 /// A run whose channels end one after the other, and letters whose qualities are nought and less.
 const ENDS: [(&str, Break); 7] = [
     ("no box behind a channel's end", |text| {
@@ -252,7 +306,7 @@ const GTC: [(&str, Break); 4] = [
 
 pub fn broken_pictures(group: &mut Group) {
     let cut_run = Subject::sample("cut-run.ab1");
-    cut_run.break_all(group, ABIF.iter().chain(&ALL));
+    cut_run.break_all(group, ABIF.iter().chain(&ALL).chain(&LOOKS));
     cut_run.on(Paper::A4).break_all(group, PAGES.iter());
     Subject::sample("run.sff").break_all(group, SFF.iter());
     Subject::sample("cut-run.gtc").break_all(group, GTC.iter().chain(&ALL));
@@ -337,7 +391,11 @@ impl Subject {
         let mut findings = Findings::default();
         let file = self.name.as_ref();
         check_picture(&mut findings, text.as_bytes(), file, &self.bytes, self.wish);
-        if let (Some(paper), Ok(root)) = (self.wish.paper, read(text.as_bytes(), self.wish)) {
+        let Ok(root) = read(text.as_bytes(), self.wish) else {
+            return findings.faults().to_vec();
+        };
+        check_looks(&mut findings, &root);
+        if let Some(paper) = self.wish.paper {
             check_pages(&mut findings, &root, paper);
         }
         findings.faults().to_vec()

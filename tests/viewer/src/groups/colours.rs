@@ -1,6 +1,7 @@
 //! The colours of pictures: that they can be read on their ground, and told apart by all readers.
 
 use crate::abif::files::Fragments;
+use crate::apart::check_apart;
 use crate::drawing::{draw, read, Input, Paper, Wish, PLAIN};
 use crate::findings::Findings;
 use crate::page::placed;
@@ -79,17 +80,26 @@ fn drawn(input: &Input, wish: Wish) -> Result<Element, String> {
 }
 
 fn check_file(findings: &mut Findings, input: &Input, wish: Wish) {
-    let read = drawn(input, wish).and_then(|root| Ok((Style::of(&root)?, root)));
-    let (style, root) = match read {
-        Ok(read) => read,
+    match drawn(input, wish) {
+        Ok(root) => check_looks(findings, &root),
+        Err(fault) => findings.check(false, || fault),
+    }
+}
+
+/// The checks of a picture's colours, and that its texts are apart.
+pub fn check_looks(findings: &mut Findings, root: &Element) {
+    let style = match Style::of(root) {
+        Ok(style) => style,
         Err(fault) => return findings.check(false, || fault),
     };
-    for page in pages(&root) {
+    for page in pages(root) {
         check_texts(findings, &style, page);
         check_strokes(findings, &style, page);
         check_marks(findings, &style, page);
     }
-    check_channels(findings, &style, &root);
+    check_channels(findings, &style, root);
+    check_legend(findings, &style, root);
+    check_apart(findings, root);
 }
 
 // Every text can be read on what stands behind it, whatever that is.
@@ -185,6 +195,50 @@ fn check_channels(findings: &mut Findings, style: &Style, root: &Element) {
         if !looks.iter().any(|(other, _)| *other == part) {
             looks.push((part, look));
         }
+    }
+}
+
+// The line before a channel's words looks as its trace, and a letter has the colour of its own.
+fn check_legend(findings: &mut Findings, style: &Style, root: &Element) {
+    let look = |element: &Element| ["stroke", "stroke-dasharray"].map(|it| style.own(element, it));
+    let traces = of_class(root, "trace");
+    let mut sample = None;
+    for element in all(root) {
+        if element.name == "path" {
+            sample = Some(look(element));
+        }
+        let words = element.words.as_str();
+        let mut told = traces.iter().filter(|trace| {
+            let part = trace.attribute("data-part").unwrap_or("no part");
+            let behind = words.strip_prefix(part).unwrap_or("");
+            element.name == "text" && behind.starts_with(' ') && behind.contains(" point")
+        });
+        let Some(trace) = told.next() else {
+            continue;
+        };
+        findings.check(sample == Some(look(trace)), || {
+            format!("{words:?} is shown as {sample:?}, its trace is {trace:?}")
+        });
+        check_letters(findings, style, root, trace, words);
+    }
+}
+
+fn check_letters(
+    findings: &mut Findings,
+    style: &Style,
+    root: &Element,
+    trace: &Element,
+    words: &str,
+) {
+    let base = words.split_once(" base ").map(|(_, behind)| behind);
+    let base = base.and_then(|behind| behind.chars().next());
+    let stroke = style.own(trace, "stroke");
+    for letter in of_class(root, "letter") {
+        let is_other = base.map(String::from).as_ref() != Some(&letter.words);
+        let fill = style.own(letter, "fill");
+        findings.check(is_other || fill == stroke, || {
+            format!("{letter:?} is {fill:?}, its trace {stroke:?}")
+        });
     }
 }
 

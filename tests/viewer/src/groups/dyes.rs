@@ -1,7 +1,8 @@
 //! Channels of many dyes, with and without a base order, and runs of fragments.
 
-use crate::abif::files::{dye_channel, dye_count, shorts, string, Fragments, Items};
-use crate::drawing::{check_all, Input, Wish, PLAIN};
+use crate::abif::files::{dye_channel, dye_count, letters_at, shorts, string, Fragments, Items};
+use crate::apart::check_apart;
+use crate::drawing::{check_all, check_all_with, Input, Wish, PLAIN};
 use compare::abif::generate::{plain_file, Content, Order};
 use compare::abif::reader::Tag;
 use compare::report::Group;
@@ -46,14 +47,15 @@ pub fn fragments(group: &mut Group) {
             inputs.push(Input::new(name, run.bytes(Order::DirectoryLast)));
         }
     }
-    check_all(group, &inputs, PLAIN);
-    check_all(group, &inputs, Wish::points(50));
-    check_all(group, &inputs, Wish::points(1700));
+    for wish in [PLAIN, Wish::points(50), Wish::points(1700)] {
+        check_all_with(group, &inputs, wish, check_apart);
+    }
     check_all(group, &almost(), PLAIN);
 }
 
-// Items, a base order, and so many channels of both kinds, each shorter than the one before.
+// Items, a base order, letters, and so many channels of both kinds, each shorter than the one before.
 fn run_of(mut items: Items, channels: i32) -> Vec<u8> {
+    items.extend(letters_at(&[5, 15, 25, 35, 45, 55, 65, 75, 83, 84, 85, 86]));
     items.push((Tag::new(b"FWO_", 1), Content::listed(2, b"TCAG".to_vec())));
     for dye in 1..=channels {
         items.push((dye_channel(dye, false), shorts(dye as i16..90)));

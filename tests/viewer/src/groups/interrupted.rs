@@ -1,7 +1,7 @@
 //! Pictures that are interrupted while they are drawn.
 
 use crate::abif::files::shorts;
-use crate::drawing::{draw, PLAIN};
+use crate::drawing::{draw, Paper, Wish, PLAIN};
 use crate::program::Program;
 use crate::scratch::Scratch;
 use compare::abif::generate::{plain_file, Order};
@@ -20,24 +20,23 @@ const POINTS_IN_A_ROW: &str = "2000000";
 pub fn interrupted(group: &mut Group) {
     for wait in [5, 20, 40, 60, 80, 100, 120] {
         group.input();
-        let scratch = Scratch::new();
-        check(group, &scratch, Duration::from_millis(wait));
+        for wish in [PLAIN, Wish::pages(Paper::A4)] {
+            check(group, wish, Duration::from_millis(wait));
+        }
     }
 }
 
 // The older picture is still there, whole, and no piece of the new one.
-fn check(group: &mut Group, scratch: &Scratch, wait: Duration) {
-    let picture = scratch.path("picture.svg");
-    let older = draw(
-        &Program::plain(),
-        Path::new("samples/run.ab1"),
-        &picture,
-        PLAIN,
-    );
+fn check(group: &mut Group, wish: Wish, wait: Duration) {
+    let scratch = Scratch::new();
+    let name = format!("picture.{}", wish.ending());
+    let picture = scratch.path(&name);
+    let sample = Path::new("samples/run.ab1");
+    let older = draw(&Program::plain(), sample, &picture, wish);
     group.check(older.picture.is_some(), &[], || format!("{older:?}"));
-    let file = long_run(scratch);
+    let file = long_run(&scratch);
     let mut command = Command::new(Program::plain().path());
-    command.arg("draw").arg(&file).arg("-o").arg(&picture);
+    command.args(wish.arguments(&file, &picture));
     command.args(["--points", POINTS_IN_A_ROW]);
     let mut child = command
         .stdout(Stdio::null())
@@ -52,7 +51,7 @@ fn check(group: &mut Group, scratch: &Scratch, wait: Duration) {
         format!("after {wait:?} the viewer ended with {status}")
     });
     let names = names_beside(&picture);
-    group.check(names == ["picture.svg", "run.ab1"], &[], || {
+    group.check(names == [&name, "run.ab1"], &[], || {
         format!("after {wait:?} there are {names:?}")
     });
     let kept = fs::read(&picture).ok();

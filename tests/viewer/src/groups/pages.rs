@@ -2,6 +2,7 @@
 
 use super::damaged::{abif_files, gtc_files, sff_files};
 use crate::abif::files::{lettered, run, Fragments};
+use crate::apart::check_apart;
 use crate::drawing::{check_all_with, Input, Paper, Wish, PAPERS};
 use crate::findings::Findings;
 use crate::page::{check_inside, check_rows, size};
@@ -34,6 +35,7 @@ pub fn pages(group: &mut Group) {
 fn check_on(group: &mut Group, inputs: &[Input], paper: Paper) {
     check_all_with(group, inputs, Wish::pages(paper), |findings, root| {
         check_pages(findings, root, paper);
+        check_apart(findings, root);
     });
 }
 

@@ -1,7 +1,8 @@
 //! Rows of few points and of very many, more rows than are drawn, and letters that are too close.
 
-use crate::abif::files::{lettered, run, Fragments};
-use crate::drawing::{check_all, Input, Wish, PLAIN};
+use crate::abif::files::{lettered, lettered_channels, run, Fragments};
+use crate::apart::check_apart;
+use crate::drawing::{check_all, check_all_with, Input, Wish, PLAIN};
 use crate::sff::files::stretches;
 use compare::abif::generate::Order;
 use compare::report::Group;
@@ -44,7 +45,7 @@ pub fn points(group: &mut Group) {
         ),
     ];
     for points in POINTS {
-        check_all(group, &inputs, Wish::points(points));
+        check_all_with(group, &inputs, Wish::points(points), check_apart);
     }
     many_rows(group);
     crowded(group);
@@ -62,6 +63,7 @@ fn many_rows(group: &mut Group) {
         })
         .collect();
     check_all(group, &inputs, Wish::points(50));
+    last_letters(group);
     let fragments: Vec<Input> = [(0, 12_000), (9_900, 12_000), (10_060, 12_000)]
         .into_iter()
         .map(|(front, length)| {
@@ -76,6 +78,23 @@ fn many_rows(group: &mut Group) {
         run([101_003, 9, 9, 9], Order::DirectoryFirst),
     );
     check_all(group, &[long], PLAIN);
+}
+
+// Each base at each of the points around the end of the last row that is drawn, over channels that end
+// around it.
+fn last_letters(group: &mut Group) {
+    let places: Vec<i16> = (9_997..10_006).flat_map(|place| [place; 4]).collect();
+    let lengths = [9_999, 10_000, 10_001, 10_002, 10_003, 11_000];
+    let mut inputs = Vec::new();
+    for other in lengths {
+        let lengths = [12_000, other, 10_001, 10_000];
+        let name = format!("letters over channels of {lengths:?} points");
+        inputs.push(Input::new(name, lettered_channels(&lengths, &places)));
+        let lengths = [other; 4];
+        let name = format!("letters over channels of {lengths:?} points");
+        inputs.push(Input::new(name, lettered_channels(&lengths, &places)));
+    }
+    check_all(group, &inputs, Wish::points(50));
 }
 
 // As many letters in a row as are drawn, one more, and many at one place.

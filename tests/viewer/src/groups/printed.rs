@@ -44,12 +44,11 @@ fn sample(name: &str) -> Input {
 }
 
 fn files() -> Vec<Input> {
-    let fragments = Fragments::new(5, false, 1200, 4000);
     vec![
         sample("run.ab1"),
         sample("cut-run.ab1"),
         Input::new("long.ab1", long_run()),
-        Input::new("fragments.fsa", fragments.bytes(Order::DirectoryFirst)),
+        sample("fragments.fsa"),
         sample("run.sff"),
         sample("cut-run.gtc"),
     ]
@@ -75,7 +74,7 @@ fn labelled_files() -> Vec<Input> {
         .iter()
         .flat_map(|name| named_files(name))
         .collect();
-    let dense: Vec<i16> = (0..250).map(|index| 5 * index + 1).collect();
+    let dense: Vec<i16> = (0..240).map(|index| 2 * index + 1).collect();
     let levels = [30_000, 10, 0, -10];
     files.push(Input::new("dense.ab1", lettered(1400, &dense)));
     files.push(Input::new(
@@ -148,15 +147,19 @@ fn jobs(files: &[Input], on_all_papers: bool) -> Vec<Job<'_>> {
             wish: PLAIN,
             paper: None,
         });
-        for made_for in PAPERS {
-            let papers = PAPERS.into_iter();
-            let papers = papers.filter(|&paper| on_all_papers || paper == made_for);
-            jobs.extend(papers.map(|paper| Job {
-                file,
-                wish: Wish::pages(made_for),
-                paper: Some(paper),
-            }));
-        }
+        // A small sheet and a wide one have all the room that there may be for a label.
+        let papers: Vec<(Paper, Paper)> = match on_all_papers {
+            true => PAPERS
+                .into_iter()
+                .flat_map(|made_for| PAPERS.map(|paper| (made_for, paper)))
+                .collect(),
+            false => vec![(PAPERS[0], PAPERS[0]), (PAPERS[3], PAPERS[3])],
+        };
+        jobs.extend(papers.into_iter().map(|(made_for, paper)| Job {
+            file,
+            wish: Wish::pages(made_for),
+            paper: Some(paper),
+        }));
     }
     jobs
 }
@@ -338,10 +341,10 @@ fn common(one: &Word, other: &Word) -> f64 {
 
 // The rows and the marks of a run, counted by what the independent reader says of it.
 fn check_count(findings: &mut Findings, printed: &[Printed], bytes: &[u8]) {
-    if Format::of(bytes) != Format::Abif {
+    let contents = Contents::of(bytes, false, None);
+    if Format::of(bytes) != Format::Abif || contents.range.length == 0 {
         return;
     }
-    let contents = Contents::of(bytes, false, None);
     let rows = contents.range.rows() - contents.folded();
     let words = || printed.iter().flat_map(|sheet| &sheet.words);
     let count = |text: &str| words().filter(|word| word.text == text).count();

@@ -1,7 +1,8 @@
 //! Channels whose ends lie at and around the ends of rows, and channels that lie far apart.
 
 use crate::abif::files::{channels, levelled, run};
-use crate::drawing::{check_all, Input, Wish, PLAIN};
+use crate::apart::check_apart;
+use crate::drawing::{check_all, check_all_with, Input, Wish, PLAIN};
 use compare::abif::generate::Order;
 use compare::report::Group;
 
@@ -31,6 +32,6 @@ pub fn rows(group: &mut Group) {
         let name = format!("channels at {levels:?}");
         inputs.push(Input::new(name, levelled(levels)));
     }
-    check_all(group, &inputs, PLAIN);
+    check_all_with(group, &inputs, PLAIN, check_apart);
     check_all(group, &inputs[..20], Wish::raw());
 }

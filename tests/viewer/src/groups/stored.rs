@@ -1,6 +1,6 @@
 //! Stored outputs of the viewer for stored samples, compared byte for byte.
 
-use crate::drawing::{check_drawn, draw, Drawn, Wish, PLAIN};
+use crate::drawing::{check_drawn, draw, Drawn, Paper, Wish, PLAIN};
 use crate::findings::Findings;
 use crate::program::{repository, Program};
 use crate::scratch::Scratch;
@@ -9,9 +9,10 @@ use std::path::{Path, PathBuf};
 use std::{fs, io};
 
 /// Files that are listed.
-const LISTED: [&str; 17] = [
+const LISTED: [&str; 18] = [
     "run.ab1",
     "cut-run.ab1",
+    "cut-fragments.fsa",
     "run.sff",
     "cut-run.sff",
     "run.gtc",
@@ -95,9 +96,13 @@ const DRAWN: [&str; 12] = [
 ];
 
 /// The pictures that the documents show.
-const DOCUMENTS: [(&str, &str); 2] = [
-    ("run.ab1", "docs/whole-run.svg"),
-    ("cut-run.ab1", "docs/cut-run.svg"),
+const DOCUMENTS: [(&str, Wish, &str); 6] = [
+    ("run.ab1", PLAIN, "docs/whole-run.svg"),
+    ("cut-run.ab1", PLAIN, "docs/cut-run.svg"),
+    ("fragments.fsa", PLAIN, "docs/fragments.svg"),
+    ("run.sff", PLAIN, "docs/read.svg"),
+    ("run.gtc", PLAIN, "docs/snps.svg"),
+    ("cut-run.ab1", Wish::pages(Paper::A4), "docs/cut-run.html"),
 ];
 
 /// An output and the file that it is stored in.
@@ -161,9 +166,9 @@ fn all_outputs() -> Vec<Stored> {
         let output = drawn(name, PLAIN).picture.unwrap_or_default();
         outputs.push(Stored { path, output });
     }
-    for (name, document) in DOCUMENTS {
+    for (name, wish, document) in DOCUMENTS {
         let path = repository().join(document);
-        let output = drawn(name, PLAIN).picture.unwrap_or_default();
+        let output = drawn(name, wish).picture.unwrap_or_default();
         outputs.push(Stored { path, output });
     }
     outputs
@@ -185,7 +190,8 @@ fn printed(name: String, arguments: &[&str]) -> Stored {
 fn drawn(name: &str, wish: Wish) -> Drawn {
     let scratch = Scratch::new();
     let file = Path::new("samples").join(name);
-    draw(&Program::plain(), &file, &scratch.path("picture.svg"), wish)
+    let picture = scratch.path(format!("picture.{}", wish.ending()));
+    draw(&Program::plain(), &file, &picture, wish)
 }
 
 // Every sample's picture is checked as those of cut files are.

@@ -1,6 +1,6 @@
 //! Pictures of files with strange names and texts, and the reader of XML itself.
 
-use crate::drawing::{check_drawn, draw, PLAIN};
+use crate::drawing::{check_drawn, draw, Paper, Wish, PLAIN};
 use crate::findings::Findings;
 use crate::program::Program;
 use crate::scratch::Scratch;
@@ -13,7 +13,7 @@ use compare::sff::draft;
 use std::ffi::OsString;
 use std::os::unix::ffi::OsStringExt;
 
-const NAMES: [&[u8]; 14] = [
+const NAMES: [&[u8]; 25] = [
     b"<&\"'>",
     b"]]>",
     b"-->",
@@ -28,6 +28,17 @@ const NAMES: [&[u8]; 14] = [
     b"\xC0\xAF",
     b"\xEF\xBF\xBF\xEF\xBF\xBE",
     b"na\xC3\xAFve \xE2\x82\xAC",
+    b"\xC2\x80\xC2\x9F\xC2\xA0",
+    b"\xD8\x9C\xD8\x9D",
+    b"\xE2\x80\x8B\xE2\x80\x8F\xE2\x80\x90",
+    b"\xE2\x80\xA8\xE2\x80\xAE\xE2\x80\xAF",
+    b"\xE2\x81\xA0\xE2\x81\xA9\xE2\x81\xAA",
+    b"\xEF\xBB\xBF\xEF\xBF\xB9\xEF\xBF\xBB",
+    b"\xEF\xB7\x90\xEF\xB7\xAF\xEF\xB7\xB0",
+    b"\xF0\x9F\xBF\xBE\xF4\x8F\xBF\xBF",
+    b"\xF0\x9F\xA7\xAC\xF0\x90\x80",
+    b"\xE8\xA9\xA6\xE6\x96\x99\xD8\xB9",
+    b"\xE0\x80\x80\xF0\x80\x80\x80\xF8",
 ];
 
 const ILL_FORMED: [&str; 30] = [
@@ -114,9 +125,11 @@ fn named_files() -> Vec<Vec<u8>> {
 fn one(group: &mut Group, name: &[u8], bytes: &[u8]) {
     let scratch = Scratch::new();
     let file = scratch.write(OsString::from_vec(name.to_vec()), bytes);
-    let drawn = draw(&Program::plain(), &file, &scratch.path("picture"), PLAIN);
     let mut findings = Findings::default();
-    check_drawn(&mut findings, &drawn, &file, bytes, PLAIN);
+    for (picture, wish) in [("picture", PLAIN), ("p.html", Wish::pages(Paper::A4))] {
+        let drawn = draw(&Program::plain(), &file, &scratch.path(picture), wish);
+        check_drawn(&mut findings, &drawn, &file, bytes, wish);
+    }
     findings.report(
         group,
         &format!("a file named {:?}", name.escape_ascii().to_string()),

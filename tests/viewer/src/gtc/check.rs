@@ -1,8 +1,9 @@
 //! The checks of a GTC file's picture.
 
 use super::places::{check_places, Places};
+use super::refusals;
 use crate::findings::Findings;
-use crate::picture::{self, number, of_class, part, Parts};
+use crate::picture::{self, number, of_class, part, Parts, Said};
 use crate::verdict;
 use crate::xml::Element;
 use compare::gtc::reader::{lookup, Snp, SnpArrays};
@@ -103,8 +104,11 @@ pub fn check(findings: &mut Findings, root: &Element, bytes: &[u8]) -> bool {
     let refused = ARRAYS.map(|(id, _)| lookup(bytes, id).err().map(|refusal| part(id, refusal)));
     let mut parts: Parts = refused.into_iter().flatten().collect();
     parts.extend(contents.refusal.map(|refusal| part(SNPS, refusal)));
-    let label = |part: &str| label_of(&contents, part);
-    picture::check_frame(findings, root, bytes, &parts, label);
+    let said = |part: &str, refusal| Said {
+        label: label_of(&contents, part),
+        words: words_of(bytes, part, refusal),
+    };
+    picture::check_frame(findings, root, bytes, &parts, said);
     check_counts(findings, root, &contents);
     check_places(findings, root, &contents.places);
     check_forbidden(findings, root, &contents);
@@ -127,6 +131,13 @@ fn label_of(contents: &Contents, part: &str) -> String {
     let [forbidden, all] = [contents.forbidden, drawn + contents.forbidden];
     let [forbidden, all] = [forbidden, all].map(|count| picture::grouped(count as i64));
     format!("{forbidden} of {all} SNPs")
+}
+
+fn words_of(bytes: &[u8], part: &str, refusal: u64) -> &'static str {
+    match part.parse() {
+        Ok(id) => refusals::words(bytes, id, refusal),
+        Err(_) => refusals::words_of_snps(bytes, refusal),
+    }
 }
 
 // No marks of no SNPs are as good as none.

@@ -1,5 +1,6 @@
 //! What listing a GTC file must print, by the independent reader and the published Table 3.
 
+use super::refusals;
 use crate::words::{cleaned, refused, Line};
 use compare::gtc::reader::{ids, lookup};
 use compare::little_endian::u32_at;
@@ -31,7 +32,11 @@ fn entry_line(bytes: &[u8], id: u16) -> Line {
     };
     let item = match lookup(bytes, id) {
         Ok(item) => item,
-        Err(refusal) => return Line::Text(format!("{id} {name} {kind} {}", refused(refusal))),
+        Err(refusal) => {
+            let number = refusal as u64;
+            let words = refusals::words(bytes, id, number);
+            return Line::Text(format!("{id} {name} {kind} {words} (refused {number})"));
+        }
     };
     let data = &bytes[item.part.clone()];
     let value = match kind {

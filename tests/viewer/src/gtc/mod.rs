@@ -4,3 +4,4 @@ pub mod check;
 pub mod files;
 pub mod listed;
 mod places;
+pub mod refusals;

@@ -1,12 +1,14 @@
-//! Where the marks of SNPs stand, to one scale for all of them.
+//! Where the marks of SNPs stand, by the numbers at the axes.
 
 use crate::findings::Findings;
-use crate::picture::of_class;
+use crate::picture::{all, has_class, number, of_class};
 use crate::xml::Element;
 use std::collections::BTreeMap;
 
-/// How far a mark may be from its place: marks stand at whole numbers, and so do those that tell the scale.
-const ROUNDING: f64 = 1.6;
+/// How far a mark may be from its place: marks stand at whole numbers.
+const ROUNDING: f64 = 1.1;
+/// How far below the middle of a number at the left axis its foot is.
+const FOOT: f64 = 4.0;
 
 type Point = [f64; 2];
 
@@ -16,25 +18,17 @@ pub type Places = BTreeMap<String, Vec<Point>>;
 /// Checks that every SNP has a mark at its place and every mark a SNP; Y grows upwards.
 pub fn check_places(findings: &mut Findings, root: &Element, expected: &Places) {
     let paths = of_class(root, "snps");
-    let marks: Vec<(&str, Vec<Point>)> = paths
-        .iter()
-        .map(|path| {
-            let genotype = path.attribute("data-genotype").unwrap_or("");
-            (genotype, points(path.attribute("d").unwrap_or("")))
-        })
-        .collect();
-    let all_marks: Vec<Point> = marks
-        .iter()
-        .flat_map(|(_, points)| points)
-        .copied()
-        .collect();
-    let all_snps: Vec<Point> = expected.values().flatten().copied().collect();
-    let (Some(seen), Some(meant)) = (Bounds::of(&all_marks), Bounds::of(&all_snps)) else {
+    if paths.is_empty() {
         return;
+    }
+    let Some(axes) = Axes::of(root) else {
+        return findings.check(false, || "marks without numbers at two axes".to_string());
     };
-    for (genotype, points) in marks {
+    for path in paths {
+        let genotype = path.attribute("data-genotype").unwrap_or("");
+        let points = points(path.attribute("d").unwrap_or(""));
         let snps = expected.get(genotype).map_or(&[][..], Vec::as_slice);
-        let places: Vec<Point> = snps.iter().map(|snp| seen.place(&meant, *snp)).collect();
+        let places: Vec<Point> = snps.iter().map(|snp| axes.place(*snp)).collect();
         let fits = all_near(&places, &points) && all_near(&points, &places);
         findings.check(fits, || {
             format!("marks of {genotype} at {points:?} for {places:?}")
@@ -63,37 +57,47 @@ fn all_near(points: &[Point], others: &[Point]) -> bool {
         .all(|one| others.iter().any(|other| near(one, other)))
 }
 
-/// The least and the greatest of both numbers.
-struct Bounds {
-    least: Point,
-    greatest: Point,
+/// The least and the greatest number at each axis, with where they stand.
+struct Axes {
+    least: [(f64, f64); 2],
+    greatest: [(f64, f64); 2],
 }
 
-impl Bounds {
-    fn of(points: &[Point]) -> Option<Bounds> {
-        let first = *points.first()?;
-        let least = points.iter().fold(first, |it, point| {
-            [0, 1].map(|axis| it[axis].min(point[axis]))
-        });
-        let greatest = points.iter().fold(first, |it, point| {
-            [0, 1].map(|axis| it[axis].max(point[axis]))
-        });
-        Some(Bounds { least, greatest })
+impl Axes {
+    // The numbers at the left stand left of the plot, those at the foot below it.
+    fn of(root: &Element) -> Option<Axes> {
+        let mut groups = all(root);
+        groups.retain(|group| group.children.iter().any(|it| has_class(it, "snps")));
+        let texts = groups
+            .first()?
+            .children
+            .iter()
+            .filter(|it| it.name == "text");
+        let mut axes: [Vec<(f64, f64)>; 2] = Default::default();
+        for text in texts {
+            let told = text.words.replace(',', "").parse::<f64>().ok();
+            let place = number::<f64>(text, "x").zip(number::<f64>(text, "y"));
+            match (told, place) {
+                (Some(told), Some((x, y))) if x < 0.0 => axes[1].push((told, y - FOOT)),
+                (Some(told), Some((x, _))) => axes[0].push((told, x)),
+                _ => {}
+            }
+        }
+        for axis in &mut axes {
+            axis.sort_by(|one, other| one.0.total_cmp(&other.0));
+        }
+        let [x, y] = axes;
+        Some(Axes {
+            least: [*x.first()?, *y.first()?],
+            greatest: [*x.last()?, *y.last()?],
+        })
     }
 
-    // Where a SNP stands between these marks, if the outermost marks are those of the outermost SNPs.
-    fn place(&self, meant: &Bounds, snp: Point) -> Point {
+    fn place(&self, snp: Point) -> Point {
         [0, 1].map(|axis| {
-            let length = meant.greatest[axis] - meant.least[axis];
-            let mut share = if length > 0.0 {
-                (snp[axis] - meant.least[axis]) / length
-            } else {
-                0.0
-            };
-            if axis == 1 && length > 0.0 {
-                share = 1.0 - share;
-            }
-            self.least[axis] + share * (self.greatest[axis] - self.least[axis])
+            let (least, start) = self.least[axis];
+            let (greatest, end) = self.greatest[axis];
+            start + (snp[axis] - least) / (greatest - least) * (end - start)
         })
     }
 }

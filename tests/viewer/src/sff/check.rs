@@ -2,7 +2,7 @@
 
 use crate::abif::shows;
 use crate::findings::Findings;
-use crate::picture::{self, number, of_class, part, Parts};
+use crate::picture::{self, number, of_class, part, Parts, Said};
 use crate::verdict;
 use crate::xml::Element;
 use compare::big_endian::u16_at;
@@ -26,7 +26,8 @@ pub fn check(findings: &mut Findings, root: &Element, bytes: &[u8], wanted: u64)
     parts.extend(header.err().map(|refusal| part("header", refusal)));
     let name = format!("read {wanted}");
     parts.extend(read.as_ref().err().map(|&refusal| part(name, refusal)));
-    picture::check_frame(findings, root, bytes, &parts, label_of);
+    let said = |part: &str, refusal| Said::of(label_of(part), refusal);
+    picture::check_frame(findings, root, bytes, &parts, said);
     let is_refused = verdict::refused(bytes).is_some();
     picture::check_mark(findings, root, read.is_ok(), is_refused);
     match (header, &read) {
@@ -96,6 +97,25 @@ fn check_flows(findings: &mut Findings, root: &Element, bytes: &[u8], flows: usi
         findings.check(fits, || format!("{flow:?} for flow {}", index + 1));
     }
     check_heights(findings, &found);
+    for (index, row) in of_class(root, "row").into_iter().enumerate() {
+        let first = FIXED_HEADER + FLOWS_IN_A_ROW * index;
+        let end = (first + FLOWS_IN_A_ROW).min(FIXED_HEADER + flows);
+        check_flow_letters(findings, row, &bytes[first..end]);
+    }
+}
+
+// Each flow's letter stands below its bar.
+fn check_flow_letters(findings: &mut Findings, row: &Element, letters: &[u8]) {
+    let mut texts = picture::all(row);
+    texts.retain(|it| it.name == "text" && !picture::has_class(it, "letter"));
+    for (index, &letter) in letters.iter().enumerate() {
+        let mut below = texts
+            .iter()
+            .filter(|it| number(it, "x") == Some(middle_of(index + 1)));
+        findings.check(below.any(|it| shows(&it.words, letter.into())), || {
+            format!("no {:?} below flow {}", char::from(letter), index + 1)
+        });
+    }
 }
 
 // Where a flow, from one, stands in its row.

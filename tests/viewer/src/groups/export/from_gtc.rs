@@ -2,6 +2,7 @@
 
 use super::{mark, Exported};
 use crate::gtc::files::snps;
+use crate::gtc::refusals::words_of_snps;
 use compare::floats::SINGLES;
 use compare::gtc::generate::{plain_file, snp_items};
 use compare::gtc::reader::{Snp, SnpArrays};
@@ -17,7 +18,11 @@ pub fn exported(bytes: &[u8]) -> Exported {
             return Exported::refused("SNPs", Refusal::NoSuchElement)
         }
         Ok(arrays) => arrays,
-        Err(refusal) => return Exported::refused("SNPs", refusal),
+        Err(refusal) => {
+            let number = refusal as u64;
+            let words = words_of_snps(bytes, number);
+            return Exported::nothing(1, format!("SNPs: {words} (refused {number})"));
+        }
     };
     let mark = mark(bytes, ',');
     let end = if mark.is_empty() { "" } else { ",refused" };
