@@ -194,7 +194,8 @@ static enum wish take_option(struct options *options, const char *command, char 
         tell_wrong_option(command, words, "needs a value behind it");
         return WISH_WRONG;
     case '?':
-        tell_wrong_option(command, words, "is no option here, or could be more than one");
+        tell_wrong_option(command, words,
+                          optopt < HELP ? "is no option here, or could be more than one" : "takes no value");
         return WISH_WRONG;
     default:
         break;

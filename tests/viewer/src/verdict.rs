@@ -51,8 +51,8 @@ pub fn is_whole(bytes: &[u8]) -> bool {
     Format::of(bytes) != Format::Unknown && refused(bytes).is_none()
 }
 
-/// The line of a file with this name, without its newline.
-pub fn line(name: &[u8], bytes: &[u8]) -> Vec<u8> {
+// The line of a file with this name, without its newline.
+fn line(name: &[u8], bytes: &[u8]) -> Vec<u8> {
     let lines = lines_of_any_length(bytes);
     let first = lines.lines().next().unwrap_or("");
     [&shown_name(name), &b": "[..], first.as_bytes()].concat()

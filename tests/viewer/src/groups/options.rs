@@ -127,6 +127,88 @@ const NOT_READ: [&[&str]; 7] = [
     &["export", "no such file", "--fasta"],
 ];
 
+/// Numbers that are just allowed, and options in another order, with the status.
+const ALLOWED: [(&[&str], i32); 16] = [
+    (&["show", FILE, "PBAS", "1"], 0),
+    (&["show", "--", FILE, "PBAS", "1"], 0),
+    (&["show", FILE, "PBAS", "2147483647"], 1),
+    (&["show", FILE, "PBAS", "-2147483648"], 1),
+    (&["draw", "--raw", "-o", PICTURE, FILE], 0),
+    (&["draw", FILE, "--raw", "-o", PICTURE], 0),
+    (&["draw", FILE, "-o", PICTURE, "--read", "0"], 0),
+    (
+        &["draw", FILE, "-o", PICTURE, "--read", "9223372036854775807"],
+        0,
+    ),
+    (&["draw", FILE, "-o", PICTURE, "--points", "50"], 0),
+    (&["draw", FILE, "-o", PICTURE, "--points", "1000000000"], 0),
+    (
+        &[
+            "draw",
+            READS,
+            "-o",
+            PICTURE,
+            "--raw",
+            "--points",
+            "50",
+            "--landscape",
+        ],
+        0,
+    ),
+    (&["draw", READS, "-o", PICTURE, "--read", "4"], 1),
+    (
+        &[
+            "export",
+            FILE,
+            "--fasta",
+            "--trimmed",
+            "--read",
+            "9",
+            "--raw",
+        ],
+        0,
+    ),
+    (&["export", READS, "--fasta", "--read", "4"], 1),
+    (&["list", FILE], 0),
+    (&["list", "--", FILE], 0),
+];
+
+/// Pictures that are the same if they have the same name.
+const PICTURES: [(&str, &[&str]); 12] = [
+    ("one", &["draw", READS, "--read", "2", "-o", "a.svg"]),
+    ("one", &["draw", READS, "--read=2", "-oa.svg"]),
+    ("one", &["draw", "--rea=2", "--output", "a.svg", READS]),
+    ("one", &["draw", "--output=a.svg", "--re", "2", "--", READS]),
+    (
+        "one",
+        &["draw", "--ou", "a.svg", "--read", "1", "--read", "2", READS],
+    ),
+    (
+        "two",
+        &[
+            "draw",
+            READS,
+            "--paper",
+            "Letter",
+            "--landscape",
+            "-o",
+            "a.html",
+        ],
+    ),
+    (
+        "two",
+        &["draw", READS, "--paper=letter", "--land", "-o", "a.htm"],
+    ),
+    (
+        "two",
+        &["draw", READS, "--pap", "LETTER", "--l", "-o", "a.HTML"],
+    ),
+    ("three", &["draw", READS, "-o", "a.html"]),
+    ("three", &["draw", READS, "--paper", "a4", "-o", "a.Htm"]),
+    ("four", &["draw", READS, "-o", "a.svg"]),
+    ("four", &["draw", READS]),
+];
+
 /// The commands, and what their help names.
 const COMMANDS: [(&[&str], &[&str]); 5] = [
     (
@@ -341,53 +423,8 @@ fn told(group: &mut Group, scratch: &Scratch, arguments: &[&str]) -> Output {
     output
 }
 
-// Numbers that are just allowed, and options in another order.
 fn bounds(group: &mut Group, scratch: &Scratch) {
-    let allowed: [(&[&str], i32); 16] = [
-        (&["show", FILE, "PBAS", "1"], 0),
-        (&["show", "--", FILE, "PBAS", "1"], 0),
-        (&["show", FILE, "PBAS", "2147483647"], 1),
-        (&["show", FILE, "PBAS", "-2147483648"], 1),
-        (&["draw", "--raw", "-o", PICTURE, FILE], 0),
-        (&["draw", FILE, "--raw", "-o", PICTURE], 0),
-        (&["draw", FILE, "-o", PICTURE, "--read", "0"], 0),
-        (
-            &["draw", FILE, "-o", PICTURE, "--read", "9223372036854775807"],
-            0,
-        ),
-        (&["draw", FILE, "-o", PICTURE, "--points", "50"], 0),
-        (&["draw", FILE, "-o", PICTURE, "--points", "1000000000"], 0),
-        (
-            &[
-                "draw",
-                READS,
-                "-o",
-                PICTURE,
-                "--raw",
-                "--points",
-                "50",
-                "--landscape",
-            ],
-            0,
-        ),
-        (&["draw", READS, "-o", PICTURE, "--read", "4"], 1),
-        (
-            &[
-                "export",
-                FILE,
-                "--fasta",
-                "--trimmed",
-                "--read",
-                "9",
-                "--raw",
-            ],
-            0,
-        ),
-        (&["export", READS, "--fasta", "--read", "4"], 1),
-        (&["list", FILE], 0),
-        (&["list", "--", FILE], 0),
-    ];
-    for (arguments, status) in allowed {
+    for (arguments, status) in ALLOWED {
         let output = Program::plain().run_in(scratch.folder(), arguments);
         group.input();
         group.check(output.status == Some(status), &[], || {
@@ -402,73 +439,37 @@ fn bounds(group: &mut Group, scratch: &Scratch) {
 
 // The same picture however its options are written, and wherever it goes.
 fn same_pictures(group: &mut Group, scratch: &Scratch) {
-    let pictures: [(&str, &[&str]); 12] = [
-        ("one", &["draw", READS, "--read", "2", "-o", "a.svg"]),
-        ("one", &["draw", READS, "--read=2", "-oa.svg"]),
-        ("one", &["draw", "--rea=2", "--output", "a.svg", READS]),
-        ("one", &["draw", "--output=a.svg", "--re", "2", "--", READS]),
-        (
-            "one",
-            &["draw", "--ou", "a.svg", "--read", "1", "--read", "2", READS],
-        ),
-        (
-            "two",
-            &[
-                "draw",
-                READS,
-                "--paper",
-                "Letter",
-                "--landscape",
-                "-o",
-                "a.html",
-            ],
-        ),
-        (
-            "two",
-            &["draw", READS, "--paper=letter", "--land", "-o", "a.htm"],
-        ),
-        (
-            "two",
-            &["draw", READS, "--pap", "LETTER", "--l", "-o", "a.HTML"],
-        ),
-        ("three", &["draw", READS, "-o", "a.html"]),
-        ("three", &["draw", READS, "--paper", "a4", "-o", "a.Htm"]),
-        ("four", &["draw", READS, "-o", "a.svg"]),
-        ("four", &["draw", READS]),
-    ];
     let mut first: BTreeMap<&str, Vec<u8>> = BTreeMap::new();
-    for (same, arguments) in pictures {
-        let before = contents(scratch.folder());
-        let output = Program::plain().run_in(scratch.folder(), arguments);
-        let after = contents(scratch.folder());
-        let new: Vec<&OsString> = after
-            .keys()
-            .filter(|name| !before.contains_key(*name))
-            .collect();
-        let picture = new.first().map_or(Vec::new(), |name| after[*name].clone());
-        let beginning = if same == "two" || same == "three" {
-            PAGES
-        } else {
-            SVG
-        };
-        let is_drawn = output.status == Some(0) && new.len() == 1 && picture.starts_with(beginning);
-        group.input();
-        group.check(is_drawn, &[], || {
-            format!("{arguments:?}: {new:?}, {output:?}")
-        });
-        let is_beside = arguments.len() != 2 || new == ["run.sff.svg"];
-        group.check(is_beside, &[], || format!("{arguments:?}: {new:?}"));
+    for (same, arguments) in PICTURES {
+        let is_pages = same == "two" || same == "three";
+        let beginning = if is_pages { PAGES } else { SVG };
+        let picture = new_picture(group, scratch, arguments);
         let earlier = first.entry(same).or_insert_with(|| picture.clone());
-        group.check(*earlier == picture, &[], || {
-            format!("{arguments:?}: another picture")
-        });
-        for name in new {
-            fs::remove_file(scratch.path(name)).expect("the new picture");
-        }
+        let is_same = *earlier == picture && picture.starts_with(beginning);
+        group.check(is_same, &[], || format!("{arguments:?}: another picture"));
     }
     let different: Vec<&Vec<u8>> = first.values().collect();
     let all_differ = (1..different.len()).all(|it| !different[..it].contains(&different[it]));
     group.check(all_differ, &[], || "pictures are alike".to_string());
+}
+
+// The one file that is new in the folder, which is taken away again.
+fn new_picture(group: &mut Group, scratch: &Scratch, arguments: &[&str]) -> Vec<u8> {
+    let before = contents(scratch.folder());
+    let output = Program::plain().run_in(scratch.folder(), arguments);
+    let mut after = contents(scratch.folder());
+    after.retain(|name, _| !before.contains_key(name));
+    let names: Vec<&OsString> = after.keys().collect();
+    let is_beside = arguments.len() != 2 || names == ["run.sff.svg"];
+    let is_drawn = output.status == Some(0) && names.len() == 1 && is_beside;
+    group.input();
+    group.check(is_drawn, &[], || {
+        format!("{arguments:?}: {names:?}, {output:?}")
+    });
+    for name in &names {
+        fs::remove_file(scratch.path(name)).expect("the new picture");
+    }
+    after.into_values().next().unwrap_or_default()
 }
 
 // A picture takes the place of one of its own kind, also behind a link, and the link stays.

@@ -43,6 +43,36 @@ const TEXTS: [&[u8]; 17] = [
     "\u{200A}\u{2010}\u{2027}\u{202F}\u{205F}\u{2070}\u{FFFC}\u{FFFD}".as_bytes(),
 ];
 
+/// What is done with a file of that name, and with names that lead nowhere.
+const NAMED: [&[&str]; 10] = [
+    &["%"],
+    &["list", "%"],
+    &["show", "%", "ABCD", "1"],
+    &["draw", "%"],
+    &["export", "--fasta", "%"],
+    &["export", "--fasta", "--refused", "%"],
+    &["export", "--csv", "%"],
+    &["list", "no/%"],
+    &["draw", "%", "-o", "no/%"],
+    &["export", "--fasta", "--refused", "-o", "no/%", "%"],
+];
+
+/// What is done with files that have the text in them, and whether it is told.
+const CONTENTS: [(&[&str], bool); 12] = [
+    (&["list", "file.ab1"], false),
+    (&["cut.ab1"], false),
+    (&["list", "cut.ab1"], false),
+    (&["show", "file.ab1", "SMPL", "1"], true),
+    (&["show", "file.ab1", "CMNT", "1"], true),
+    (&["show", "file.ab1", "PBAS", "2"], false),
+    (&["export", "--fasta", "file.ab1"], true),
+    (&["export", "--refused", "--fasta", "cut.ab1"], true),
+    (&["list", "file.sff"], true),
+    (&["export", "--fasta", "file.sff"], false),
+    (&["export", "--fastq", "file.sff"], false),
+    (&["list", "file.gtc"], true),
+];
+
 /// Words that are wrong, with a text in the place of the mark.
 const WRONG: [&[&str]; 10] = [
     &["--%"],
@@ -125,45 +155,16 @@ fn check_shown(findings: &mut Findings, text: &[u8]) {
 
 fn check_names(findings: &mut Findings, text: &[u8]) {
     let scratch = Scratch::new();
-    let is_slash = |byte: &u8| [b'/', 0].contains(byte);
-    let name: Vec<u8> = text
-        .iter()
-        .copied()
-        .filter(|byte| !is_slash(byte))
-        .collect();
+    let name: Vec<u8> = text.iter().copied().filter(|&it| it != b'/').collect();
     let name = OsString::from_vec([b"n", &name[..]].concat());
     let shown = cleaned(name.as_bytes());
     let bytes = compare::sff::samples::one_read();
-    scratch.write(&name, &bytes[..bytes.len() - 1]);
-    std::fs::create_dir(scratch.path("folder")).expect("a new folder");
-    let missing = OsString::from_vec([b"no/", name.as_bytes()].concat());
-    let commands: [&[&OsStr]; 10] = [
-        &[&name],
-        &["list".as_ref(), &name],
-        &["show".as_ref(), &name, "ABCD".as_ref(), "1".as_ref()],
-        &["draw".as_ref(), &name],
-        &["export".as_ref(), "--fasta".as_ref(), &name],
-        &[
-            "export".as_ref(),
-            "--fasta".as_ref(),
-            "--refused".as_ref(),
-            &name,
-        ],
-        &["export".as_ref(), "--csv".as_ref(), &name],
-        &["list".as_ref(), &missing],
-        &["draw".as_ref(), &name, "-o".as_ref(), &missing],
-        &[
-            "export".as_ref(),
-            "--fasta".as_ref(),
-            "--refused".as_ref(),
-            "-o".as_ref(),
-            &missing,
-            &name,
-        ],
-    ];
-    for arguments in commands {
-        let output = Program::plain().run_in(scratch.folder(), arguments);
-        check_output(findings, &output, arguments);
+    let bytes = &bytes[..bytes.len() - 1];
+    scratch.write(&name, bytes);
+    for words in NAMED {
+        let arguments = filled(words, name.as_bytes());
+        let output = Program::plain().run_in(scratch.folder(), &arguments);
+        check_output(findings, &output, &arguments);
         let told = output.stdout_text() + &output.stderr_text();
         findings.check(told.contains(&shown), || {
             format!("{arguments:?}: {told:?} without {shown:?}")
@@ -171,8 +172,7 @@ fn check_names(findings: &mut Findings, text: &[u8]) {
     }
     let output = Program::plain().run_in(scratch.folder(), &["."]);
     check_output(findings, &output, &["."]);
-    let line = [b"./", name.as_bytes()].concat();
-    let lines = verdict::lines(&line, &bytes[..bytes.len() - 1]);
+    let lines = verdict::lines(&[b"./", name.as_bytes()].concat(), bytes);
     findings.check(output.stdout.starts_with(&lines), || {
         format!("printed {:?}", output.stdout_text())
     });
@@ -181,45 +181,14 @@ fn check_names(findings: &mut Findings, text: &[u8]) {
 // The text as a sample's and a read's name, as called letters, as a tag, and as the strings of a GTC file.
 fn check_contents(findings: &mut Findings, text: &[u8]) {
     let scratch = Scratch::new();
-    let no_zero: Vec<u8> = text.iter().copied().filter(|&byte| byte != 0).collect();
-    let p_string = [&[text.len() as u8], text].concat();
-    let c_string = [&no_zero[..], &[0]].concat();
-    let tag = [text[0], text[1], text[2], text[3]];
-    let items = [
-        (Tag::new(b"SMPL", 1), Content::listed(P_STRING, p_string)),
-        (Tag::new(b"CMNT", 1), Content::listed(C_STRING, c_string)),
-        (Tag::new(b"PBAS", 1), Content::listed(2, b"GATC".to_vec())),
-        (Tag::new(b"PBAS", 2), Content::listed(2, text.to_vec())),
-        (Tag::new(&tag, 7), Content::listed(4, vec![0; 600])),
-    ];
-    let mut abif = plain_file(&items, Order::DirectoryFirst).bytes();
+    let abif = abif_file(text);
     scratch.write("file.ab1", &abif);
-    abif.pop();
-    scratch.write("cut.ab1", &abif);
-    let mut read = Read::new(text, 8, &[1, 1]);
-    read.letters = vec![b'A', text[0]];
-    let mut draft = Draft::new(8, 4, vec![Read::new(text, 8, &[1, 1]), read], None);
-    draft.letters[..4].copy_from_slice(&text[..4]);
-    draft.letters[9..12].copy_from_slice(&text[1..4]);
-    scratch.write("file.sff", &draft.bytes());
+    scratch.write("cut.ab1", &abif[..abif.len() - 1]);
+    scratch.write("file.sff", &sff_file(text));
     let items = [(10, gtc::text(text)), (200, gtc::text(text))];
     scratch.write("file.gtc", &gtc::plain_file(&items).bytes());
-    let commands: [(&[&str], bool); 12] = [
-        (&["list", "file.ab1"], false),
-        (&["cut.ab1"], false),
-        (&["list", "cut.ab1"], false),
-        (&["show", "file.ab1", "SMPL", "1"], true),
-        (&["show", "file.ab1", "CMNT", "1"], true),
-        (&["show", "file.ab1", "PBAS", "2"], false),
-        (&["export", "--fasta", "file.ab1"], true),
-        (&["export", "--refused", "--fasta", "cut.ab1"], true),
-        (&["list", "file.sff"], true),
-        (&["export", "--fasta", "file.sff"], false),
-        (&["export", "--fastq", "file.sff"], false),
-        (&["list", "file.gtc"], true),
-    ];
     let shown = cleaned(text);
-    for (arguments, is_told) in commands {
+    for (arguments, is_told) in CONTENTS {
         let output = Program::plain().run_in(scratch.folder(), arguments);
         check_output(findings, &output, arguments);
         findings.check(!is_told || output.stdout_text().contains(&shown), || {
@@ -231,16 +200,42 @@ fn check_contents(findings: &mut Findings, text: &[u8]) {
     }
 }
 
+fn abif_file(text: &[u8]) -> Vec<u8> {
+    let p_string = [&[text.len() as u8], text].concat();
+    let c_string = [text, &[0]].concat();
+    let tag = [text[0], text[1], text[2], text[3]];
+    let items = [
+        (Tag::new(b"SMPL", 1), Content::listed(P_STRING, p_string)),
+        (Tag::new(b"CMNT", 1), Content::listed(C_STRING, c_string)),
+        (Tag::new(b"PBAS", 1), Content::listed(2, b"GATC".to_vec())),
+        (Tag::new(b"PBAS", 2), Content::listed(2, text.to_vec())),
+        (Tag::new(&tag, 7), Content::listed(4, vec![0; 600])),
+    ];
+    plain_file(&items, Order::DirectoryFirst).bytes()
+}
+
+fn sff_file(text: &[u8]) -> Vec<u8> {
+    let mut read = Read::new(text, 8, &[1, 1]);
+    read.letters = vec![b'A', text[0]];
+    let mut draft = Draft::new(8, 4, vec![Read::new(text, 8, &[1, 1]), read], None);
+    draft.letters[..4].copy_from_slice(&text[..4]);
+    draft.letters[9..12].copy_from_slice(&text[1..4]);
+    draft.bytes()
+}
+
+// The words, with the text in the place of each mark.
+fn filled(words: &[&str], text: &[u8]) -> Vec<OsString> {
+    let fill = |word: &&str| match word.split_once('%') {
+        Some((before, _)) => OsString::from_vec([before.as_bytes(), text].concat()),
+        None => word.into(),
+    };
+    words.iter().map(fill).collect()
+}
+
 fn check_words(findings: &mut Findings, text: &[u8]) {
     let scratch = Scratch::new();
     for words in WRONG {
-        let mut arguments: Vec<OsString> = Vec::new();
-        for word in words {
-            arguments.push(match word.split_once('%') {
-                Some((before, _)) => OsString::from_vec([before.as_bytes(), text].concat()),
-                None => word.into(),
-            });
-        }
+        let arguments = filled(words, text);
         let output = Program::plain().run_in(scratch.folder(), &arguments);
         check_output(findings, &output, &arguments);
         findings.check(output.status == Some(2) && output.stdout.is_empty(), || {

@@ -104,58 +104,53 @@ fn channels(bytes: &[u8], raw: bool) -> Exported {
     }
 }
 
-/// Runs whose letters can be written, and some where one thing cannot; the first is small.
+/// Runs whose letters can be written, the first of them small, and those where one thing cannot.
 pub fn runs() -> Vec<Vec<u8>> {
-    let mut unsure = called(1, 9000);
-    unsure[0].1.data[4097] = b'?';
-    let mut bad = called(1, 9000);
-    bad[1].1.data[8191] = 94;
-    let mut below = called(1, 61);
-    below[1].1.data[60] = 0xFF;
-    let mut fewer = called(1, 60);
-    fewer[1] = (Tag::new(b"PCON", 1), Content::listed(2, vec![30; 59]));
-    let wide = [65, 84, 321]
-        .into_iter()
-        .flat_map(i32::to_be_bytes)
-        .collect();
-    let wide = vec![(Tag::new(b"PBAS", 1), Content::listed(LONG, wide))];
-    let tagged = vec![
-        with(
-            called(1, 7),
-            &[9, 10, 11, 12],
-            5,
-            text(b"SMPL", P_STRING, b"tube 7\x1B"),
-        ),
+    let mut runs = sound_runs();
+    let others = unsound_letters().into_iter();
+    runs.extend(others.map(|items| with(items, &[], 0, Items::new())));
+    runs
+}
+
+fn sound_runs() -> Vec<Vec<u8>> {
+    let four = [9, 10, 11, 12];
+    let six = [9, 10, 11, 12, 205, 206];
+    let raw = [1, 2, 3, 4, 105];
+    let named = |code, name| text(b"SMPL", code, name);
+    let named_so = |code, name| text(b"SpNm", code, name);
+    vec![
+        with(called(1, 7), &four, 5, named(P_STRING, b"tube 7\x1B")),
         with(
             called(1, 10_000),
-            &[9, 10, 11, 12],
+            &four,
             9001,
-            text(b"SpNm", C_STRING, b"tube \xC3\xA9"),
+            named_so(C_STRING, b"tube \xC3\xA9"),
         ),
-        with(
-            called(2, 60),
-            &[9, 10, 11, 12, 205, 206],
-            4096,
-            text(b"SMPL", P_STRING, b""),
-        ),
-        with(
-            called(1, 1),
-            &[1, 2, 3, 4, 105],
-            4097,
-            text(b"SpNm", P_STRING, b"x"),
-        ),
+        with(called(2, 60), &six, 4096, named(P_STRING, b"")),
+        with(called(1, 1), &raw, 4097, named_so(P_STRING, b"x")),
         with(
             called(1, 120),
             &[10, 216],
             3,
-            text(b"SMPL", C_STRING, b"two\0three"),
+            named(C_STRING, b"two\0three"),
         ),
-    ];
-    let others = [unsure, bad, below, fewer, wide, Items::new()];
-    let others = others
-        .into_iter()
-        .map(|items| with(items, &[], 0, Items::new()));
-    tagged.into_iter().chain(others).collect()
+    ]
+}
+
+// A letter, a quality or their numbers cannot be, or there are none.
+fn unsound_letters() -> [Items; 6] {
+    let mut unsure = called(1, 9000);
+    unsure[0].1.data[4097] = b'?';
+    let mut high = called(1, 9000);
+    high[1].1.data[8191] = 94;
+    let mut below = called(1, 61);
+    below[1].1.data[60] = 0xFF;
+    let mut fewer = called(1, 60);
+    fewer[1] = (Tag::new(b"PCON", 1), Content::listed(2, vec![30; 59]));
+    let wide = [65, 84, 321].into_iter().flat_map(i32::to_be_bytes);
+    let wide = Content::listed(LONG, wide.collect());
+    let wide = vec![(Tag::new(b"PBAS", 1), wide)];
+    [unsure, high, below, fewer, wide, Items::new()]
 }
 
 fn called(number: i32, count: usize) -> Items {
