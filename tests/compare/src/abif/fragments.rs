@@ -1,9 +1,8 @@
 //! A small run of fragments as an instrument stores it: five dyes, no base order and no called bases.
 
 use super::draft::Draft;
-use super::generate::{plain_file, Order};
 use super::reader::Tag;
-use super::run::{shorts, text};
+use super::run::{file_of, shorts, text};
 use crate::random::Random;
 
 const POINTS: usize = 4000;
@@ -37,11 +36,7 @@ pub fn fragments() -> Draft {
     for number in [1, 2, 3, 4, 105] {
         items.push((Tag::new(b"DATA", number), shorts(points(&mut random))));
     }
-    let mut draft = plain_file(&items, Order::DirectoryFirst);
-    draft
-        .entries
-        .sort_by_key(|entry| (entry.tag.name, entry.tag.number));
-    draft
+    file_of(&items)
 }
 
 /// How many bytes the data of a channel take.

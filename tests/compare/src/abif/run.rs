@@ -48,7 +48,12 @@ pub fn run_of(count: usize) -> Draft {
         let points = analysed_points(&mut random, &bases, channel);
         items.push((Tag::new(b"DATA", channel as i32 + 9), shorts(points)));
     }
-    let mut draft = plain_file(&items, Order::DirectoryFirst);
+    file_of(&items)
+}
+
+/// A file of these items, with the directory, in the order of the tags, at 128 and the data behind it.
+pub fn file_of(items: &[(Tag, Content)]) -> Draft {
+    let mut draft = plain_file(items, Order::DirectoryFirst);
     draft
         .entries
         .sort_by_key(|entry| (entry.tag.name, entry.tag.number));

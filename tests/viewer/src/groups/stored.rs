@@ -1,6 +1,6 @@
 //! Stored outputs of the viewer for stored samples, compared byte for byte.
 
-use crate::drawing::{check_drawn, draw, Drawn, Paper, Wish, PLAIN};
+use crate::drawing::{check_drawn, draw, Drawn, Wish, PAPERS, PLAIN};
 use crate::findings::Findings;
 use crate::program::{repository, Program};
 use crate::scratch::Scratch;
@@ -102,7 +102,7 @@ const DOCUMENTS: [(&str, Wish, &str); 6] = [
     ("fragments.fsa", PLAIN, "docs/fragments.svg"),
     ("run.sff", PLAIN, "docs/read.svg"),
     ("run.gtc", PLAIN, "docs/snps.svg"),
-    ("cut-run.ab1", Wish::pages(Paper::A4), "docs/cut-run.html"),
+    ("cut-run.ab1", Wish::pages(PAPERS[1]), "docs/cut-run.html"),
 ];
 
 /// An output and the file that it is stored in.
