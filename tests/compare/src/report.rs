@@ -20,10 +20,10 @@ pub fn run_groups(groups: &[(&'static str, Run)], beginning: &str) -> ExitCode {
     for (name, run) in chosen.filter(|(name, _)| name.starts_with(beginning)) {
         let mut group = Group::new(name);
         run(&mut group);
-        if group.finish() {
-            passed += 1;
-        } else {
-            failed += 1;
+        match group.finish() {
+            Outcome::Passed => passed += 1,
+            Outcome::Failed => failed += 1,
+            Outcome::LeftOut => {}
         }
     }
     println!("{passed} passed, {failed} failed");
@@ -34,6 +34,12 @@ pub fn run_groups(groups: &[(&'static str, Run)], beginning: &str) -> ExitCode {
     }
 }
 
+pub enum Outcome {
+    Passed,
+    Failed,
+    LeftOut,
+}
+
 pub struct Group {
     name: &'static str,
     start: Instant,
@@ -41,6 +47,7 @@ pub struct Group {
     comparisons: u64,
     mismatches: u64,
     remark: String,
+    left_out: Option<String>,
 }
 
 impl Group {
@@ -52,6 +59,7 @@ impl Group {
             comparisons: 0,
             mismatches: 0,
             remark: String::new(),
+            left_out: None,
         }
     }
 
@@ -62,6 +70,11 @@ impl Group {
     /// What the group's line ends with.
     pub fn remark(&mut self, remark: String) {
         self.remark = format!("; {remark}");
+    }
+
+    /// The group cannot be run here, and counts neither as passed nor as failed.
+    pub fn leave_out(&mut self, reason: String) {
+        self.left_out = Some(reason);
     }
 
     /// Counts one comparison and, where it fails, shows the message and the file.
@@ -97,8 +110,12 @@ impl Group {
         }
     }
 
-    /// Prints the group's line and tells whether the group passed.
-    pub fn finish(self) -> bool {
+    /// Prints the group's line and tells how it ended.
+    pub fn finish(self) -> Outcome {
+        if let Some(reason) = self.left_out {
+            println!("left out {}: {reason}", self.name);
+            return Outcome::LeftOut;
+        }
         let time: Duration = self.start.elapsed();
         let passed = self.mismatches == 0 && self.comparisons > 0;
         println!(
@@ -111,7 +128,11 @@ impl Group {
             time.as_secs_f64(),
             self.remark
         );
-        passed
+        if passed {
+            Outcome::Passed
+        } else {
+            Outcome::Failed
+        }
     }
 }
 

@@ -167,8 +167,8 @@ fn jobs(files: &[Input], on_all_papers: bool) -> Vec<Job<'_>> {
 // Where there is no browser, nothing is tried, and that is said.
 fn print_all(group: &mut Group, files: &[Input], on_all_papers: bool) {
     if !is_there() {
-        group.check(true, &[], String::new);
-        return group.remark("left out: no chromium or pdftotext to print with".to_string());
+        let reason = "chromium and poppler-utils are missing and cannot be installed";
+        return group.leave_out(reason.to_string());
     }
     let scratch = Scratch::new();
     let jobs = jobs(files, on_all_papers);
