@@ -33,7 +33,7 @@ static const char PRINTED_PAGES[] =
 
 static const char HATCH[] = "<defs><pattern id=\"hatch\" width=\"9\" height=\"9\" patternUnits=\"userSpaceOnUse\" "
                             "patternTransform=\"rotate(45)\"><rect width=\"9\" height=\"9\" fill=\"#fff\"/>"
-                            "<rect width=\"4\" height=\"9\" fill=\"#8a8a8a\"/></pattern></defs>\n";
+                            "<rect width=\"4\" height=\"9\" fill=\"#707070\"/></pattern></defs>\n";
 
 void sheet_add(struct sheet *sheet, int64_t height, draw_block *draw, uint64_t index) {
     if (sheet->count == MOST_BLOCKS) {
