@@ -9,6 +9,7 @@ use crate::words::cleaned;
 use crate::xml::Element;
 use crate::{abif, gtc, sff, workers, xml};
 use compare::report::Group;
+use compare::samples;
 use std::ffi::OsString;
 use std::fs;
 use std::os::unix::ffi::OsStrExt;
@@ -122,6 +123,21 @@ impl Input {
     pub fn new(name: impl ToString, bytes: Vec<u8>) -> Input {
         let name = name.to_string();
         Input { name, bytes }
+    }
+
+    /// The stored files.
+    pub fn samples() -> Vec<Input> {
+        let samples = samples::all().into_iter();
+        samples
+            .map(|(name, bytes)| Input::new(name, bytes))
+            .collect()
+    }
+
+    /// The stored file of this name.
+    pub fn sample(name: &str) -> Input {
+        let mut samples = Input::samples().into_iter();
+        let sample = samples.find(|sample| sample.name == name);
+        sample.expect("a sample of this name")
     }
 }
 

@@ -15,6 +15,7 @@ mod program;
 mod scratch;
 mod sentences;
 mod sff;
+mod sheet;
 mod style;
 mod verdict;
 mod words;

@@ -22,11 +22,11 @@ pub fn check_axes(findings: &mut Findings, row: &Row, contents: &Contents) {
         return;
     }
     let first = contents.range.points * row.index;
-    let (mut values, mut points) = (0, 0);
+    let (mut values, mut points) = (Vec::new(), 0);
     for (text, x, y) in numbers(row.element) {
         let told: i64 = text.words.replace(',', "").parse().unwrap_or(0);
         if x < 0.0 && (0.0..=scale.height + BELOW).contains(&y) {
-            values += 1;
+            values.push(told as f64);
             findings.check((y - scale.place(told)).abs() <= FOOT, || {
                 format!("row {}: {told} at {y}", row.index)
             });
@@ -43,8 +43,9 @@ pub fn check_axes(findings: &mut Findings, row: &Row, contents: &Contents) {
             );
         }
     }
-    findings.check(values >= 2 && points >= 1, || {
-        format!("row {}: {values} values and {points} points", row.index)
+    let is_told = values.len() >= 2 && values.contains(&scale.top) && points >= 1;
+    findings.check(is_told, || {
+        format!("row {}: values {values:?} and {points} points", row.index)
     });
 }
 

@@ -93,6 +93,31 @@ fn fragment_points(random: &mut Random, front: usize, length: usize) -> Vec<i16>
     points
 }
 
+/// A run of fragments whose first rows of 500 points go as far up and down as these numbers say.
+pub fn fragments_of(spreads: &[i16]) -> Vec<u8> {
+    let mut points = Vec::new();
+    for (row, &spread) in spreads.iter().enumerate() {
+        points.resize(500 * row + 250, 0);
+        points.push(spread);
+    }
+    points.resize(500 * spreads.len(), 0);
+    let items = [dye_count(1), (dye_channel(1, true), shorts(points))];
+    plain_file(&items, Order::DirectoryFirst).bytes()
+}
+
+/// A run whose channels are low up to a point, and high behind it.
+pub fn rising(length: usize, place: usize) -> Vec<u8> {
+    let mut random = Random::new(70);
+    let mut items = letters_at(&[10, 20, 30]);
+    items.push((Tag::new(b"FWO_", 1), Content::listed(2, b"GATC".to_vec())));
+    for number in 9..=12 {
+        let level = |point| if point <= place { 900 } else { 30_000 };
+        let points = (0..length).map(|point| level(point) + random.below(90) as i16);
+        items.push((Tag::new(b"DATA", number), shorts(points)));
+    }
+    plain_file(&items, Order::DirectoryFirst).bytes()
+}
+
 /// A run of four channels of the same length, with letters at these places.
 pub fn lettered(length: usize, places: &[i16]) -> Vec<u8> {
     lettered_channels(&[length; 4], places)

@@ -17,7 +17,7 @@ const LEAST_TOP: f64 = 100.0;
 
 /// The values at a row's top and bottom, and its height.
 pub struct Scale {
-    top: f64,
+    pub top: f64,
     bottom: f64,
     pub height: f64,
 }

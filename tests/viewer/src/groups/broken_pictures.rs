@@ -3,7 +3,7 @@
 use super::colours::check_looks;
 use super::pages::check_pages;
 use crate::abif::files::{run, shorts, Fragments};
-use crate::drawing::{check_picture, draw, read, Paper, Wish, PLAIN};
+use crate::drawing::{check_picture, draw, read, Input, Paper, Wish, PLAIN};
 use crate::findings::Findings;
 use crate::program::Program;
 use crate::scratch::Scratch;
@@ -344,10 +344,7 @@ impl Subject {
     }
 
     fn sample(name: &'static str) -> Subject {
-        let samples = compare::samples::all().into_iter();
-        let mut samples = samples.filter(|(other, _)| *other == name);
-        let bytes = samples.next().map_or(Vec::new(), |(_, bytes)| bytes);
-        Subject::new(name, bytes)
+        Subject::new(name, Input::sample(name).bytes)
     }
 
     fn on(&self, paper: Paper) -> Subject {

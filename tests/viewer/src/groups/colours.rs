@@ -12,7 +12,6 @@ use crate::style::{colour, contrast, light, luminance, Colour, Style, BLACK, WHI
 use crate::xml::Element;
 use compare::abif::generate::Order;
 use compare::report::Group;
-use compare::samples;
 
 /// What the WCAG ask for of texts.
 const LEAST_CONTRAST: f64 = 4.5;
@@ -55,10 +54,7 @@ pub fn colours(group: &mut Group) {
 }
 
 fn inputs() -> Vec<Input> {
-    let samples = samples::all().into_iter();
-    let mut inputs: Vec<Input> = samples
-        .map(|(name, bytes)| Input::new(name, bytes))
-        .collect();
+    let mut inputs = Input::samples();
     for (dyes, raw) in [(5, false), (16, false), (16, true)] {
         let run = Fragments::new(dyes, raw, 600, 1400);
         let name = format!("fragments of {dyes} dyes");
@@ -246,10 +242,7 @@ fn check_letters(
 fn the_four_bases(group: &mut Group) {
     let mut findings = Findings::default();
     for name in ["run.ab1", "run.sff"] {
-        let samples = samples::all().into_iter();
-        let mut samples = samples.filter(|(other, _)| *other == name);
-        let bytes = samples.next().map_or(Vec::new(), |(_, bytes)| bytes);
-        let read = drawn(&Input::new(name, bytes), PLAIN);
+        let read = drawn(&Input::sample(name), PLAIN);
         let read = read.and_then(|root| Ok((Style::of(&root)?, root)));
         match read {
             Err(fault) => findings.check(false, || fault),

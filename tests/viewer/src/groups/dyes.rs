@@ -1,6 +1,8 @@
 //! Channels of many dyes, with and without a base order, and runs of fragments.
 
-use crate::abif::files::{dye_channel, dye_count, letters_at, shorts, string, Fragments, Items};
+use crate::abif::files::{
+    dye_channel, dye_count, fragments_of, letters_at, shorts, string, Fragments, Items,
+};
 use crate::apart::check_apart;
 use crate::drawing::{check_all, check_all_with, Input, Wish, PLAIN};
 use compare::abif::generate::{plain_file, Content, Order};
@@ -51,6 +53,7 @@ pub fn fragments(group: &mut Group) {
         check_all_with(group, &inputs, wish, check_apart);
     }
     check_all(group, &almost(), PLAIN);
+    check_all(group, &hardly_flat(), PLAIN);
 }
 
 // Items, a base order, letters, and so many channels of both kinds, each shorter than the one before.
@@ -106,6 +109,19 @@ fn refused_channels() -> Vec<Input> {
             items.push((dye_channel(dye, true), content.clone()));
             let name = format!("dye {dye} is {content:?}");
             inputs.push(Input::new(name, run_of(items, 4)));
+        }
+    }
+    inputs
+}
+
+// Rows that are just flat and just not, up and down.
+fn hardly_flat() -> Vec<Input> {
+    let mut inputs = Vec::new();
+    for spread in [198, 199, 200, 201, 202, -198, -200, -202] {
+        for highest in [10_000, 10_049, -10_000] {
+            let spreads = [0, spread, 3, highest, spread];
+            let name = format!("rows of {spreads:?}");
+            inputs.push(Input::new(name, fragments_of(&spreads)));
         }
     }
     inputs

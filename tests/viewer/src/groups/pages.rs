@@ -12,17 +12,13 @@ use crate::xml::Element;
 use crate::{abif, gtc, sff};
 use compare::abif::generate::Order;
 use compare::report::Group;
-use compare::samples;
 
 const DAMAGED: usize = 40;
 /// Every so many bytes a file is cut.
 const STEP: usize = 37;
 
 pub fn pages(group: &mut Group) {
-    let samples = samples::all().into_iter();
-    let mut inputs: Vec<Input> = samples
-        .map(|(name, bytes)| Input::new(name, bytes))
-        .collect();
+    let mut inputs = Input::samples();
     inputs.extend(long_files());
     for paper in PAPERS {
         check_on(group, &inputs, paper);

@@ -1,6 +1,6 @@
 //! Rows of few points and of very many, more rows than are drawn, and letters that are too close.
 
-use crate::abif::files::{lettered, lettered_channels, run, Fragments};
+use crate::abif::files::{lettered, lettered_channels, rising, run, Fragments};
 use crate::apart::check_apart;
 use crate::drawing::{check_all, check_all_with, Input, Wish, PLAIN};
 use crate::sff::files::stretches;
@@ -73,6 +73,9 @@ fn many_rows(group: &mut Group) {
         })
         .collect();
     check_all(group, &fragments, Wish::points(50));
+    // What is left out counts for no scale.
+    let rising = Input::new("a rise behind the last row", rising(12_000, 10_000));
+    check_all(group, &[rising], Wish::points(50));
     let long = Input::new(
         "a very long run",
         run([101_003, 9, 9, 9], Order::DirectoryFirst),
