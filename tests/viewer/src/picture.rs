@@ -116,6 +116,7 @@ pub fn check_frame(
         format!("hatched are {found:?}, refused are {parts:?}")
     });
     check_hatching(findings, root, !parts.is_empty());
+    check_numbers(findings, root);
     let is_lost = nothing_is_found(bytes);
     check_words(findings, root, |part, refusal| {
         let mut said = said(part, refusal);
@@ -224,6 +225,18 @@ fn check_hatching(findings: &mut Findings, root: &Element, is_used: bool) {
     findings.check(is_pattern || !is_used, || {
         "no pattern for the boxes".to_string()
     });
+}
+
+// A text that is a number has commas between its thousands.
+fn check_numbers(findings: &mut Findings, root: &Element) {
+    for text in all(root).into_iter().filter(|it| it.name == "text") {
+        let is_number = !text.words.starts_with('+');
+        let number = text.words.replace(',', "").parse().ok();
+        let number = number.filter(|_| is_number).map(grouped);
+        findings.check(number.is_none_or(|number| text.words == number), || {
+            format!("the number {:?}", text.words)
+        });
+    }
 }
 
 /// The checks of the elements that say of what is drawn that the file is refused.

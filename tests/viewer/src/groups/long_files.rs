@@ -1,8 +1,9 @@
 //! Files as long as those of instruments, drawn and checked.
 
-use crate::abif::files::run;
+use crate::abif::files::{lettered, run};
 use crate::drawing::{check_all, Input, Wish, PLAIN};
 use crate::gtc::files::snps;
+use crate::sff::files::small_reads;
 use compare::abif::generate::Order;
 use compare::gtc::generate::{plain_file, snp_items};
 use compare::random::Random;
@@ -12,6 +13,7 @@ use compare::sff::generate::instrument_file;
 const POINTS: usize = 18_001;
 const READS_LENGTH: usize = 20_000;
 const SNPS: usize = 1500;
+const READS: usize = 1234;
 
 pub fn long_files(group: &mut Group) {
     let lengths = [POINTS, POINTS - 1, POINTS + 1, 600];
@@ -32,6 +34,18 @@ pub fn long_files(group: &mut Group) {
     for number in 1..=8 {
         check_all(group, &inputs, Wish::read(number));
     }
+    let reads = small_reads(READS, None);
+    let start = reads.layout().reads[READS - 2];
+    let inputs = [
+        Input::new("very many reads", reads.bytes()),
+        Input::new("very many reads, cut", reads.bytes()[..start + 9].to_vec()),
+    ];
+    for number in [1, READS as u64 - 1, READS as u64, 123_456_789] {
+        check_all(group, &inputs, Wish::read(number));
+    }
+    let places: Vec<i16> = (0..1300).map(|index| 9 * index + 3).collect();
+    let letters = Input::new("many letters", lettered(12_000, &places));
+    check_all(group, &[letters], PLAIN);
 }
 
 // Many of them at each place, so that they share marks.

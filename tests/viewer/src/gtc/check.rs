@@ -3,7 +3,7 @@
 use super::places::{check_places, Places};
 use super::refusals;
 use crate::findings::Findings;
-use crate::picture::{self, number, of_class, part, Parts, Said};
+use crate::picture::{self, grouped, number, of_class, part, Parts, Said};
 use crate::verdict;
 use crate::xml::Element;
 use compare::gtc::reader::{lookup, Snp, SnpArrays};
@@ -112,6 +112,7 @@ pub fn check(findings: &mut Findings, root: &Element, bytes: &[u8]) -> bool {
     check_counts(findings, root, &contents);
     check_places(findings, root, &contents.places);
     check_forbidden(findings, root, &contents);
+    check_told(findings, root, bytes, &contents);
     let is_refused = verdict::refused(bytes).is_some();
     let is_drawn = !of_class(root, "snps").is_empty();
     picture::check_mark(findings, root, is_drawn, is_refused);
@@ -129,7 +130,7 @@ fn label_of(contents: &Contents, part: &str) -> String {
     }
     let drawn: usize = contents.places.values().map(Vec::len).sum();
     let [forbidden, all] = [contents.forbidden, drawn + contents.forbidden];
-    let [forbidden, all] = [forbidden, all].map(|count| picture::grouped(count as i64));
+    let [forbidden, all] = [forbidden, all].map(|count| grouped(count as i64));
     format!("{forbidden} of {all} SNPs")
 }
 
@@ -159,6 +160,55 @@ fn check_counts(findings: &mut Findings, root: &Element, contents: &Contents) {
     findings.check(found == expected, || {
         format!("marks for {found:?}, there are {expected:?}")
     });
+}
+
+// Each array that is there is told with its length.
+fn check_told(findings: &mut Findings, root: &Element, bytes: &[u8], contents: &Contents) {
+    let texts = picture::all(root)
+        .into_iter()
+        .filter(|it| it.name == "text");
+    let texts: Vec<&str> = texts.map(|text| text.words.as_str()).collect();
+    let arrays = ARRAYS.iter().filter_map(|(id, name)| {
+        let count = lookup(bytes, *id).ok()?.count;
+        let told = format!("{id} {name}: {}", grouped(count as i64));
+        let is_refused = verdict::refused(bytes).is_some();
+        Some(told + if is_refused { ", file refused" } else { "" })
+    });
+    for told in arrays {
+        findings.check(texts.contains(&told.as_str()), || {
+            format!("no text says {told:?}")
+        });
+    }
+    check_legend(findings, &texts, contents);
+}
+
+// Each genotype is named once beside the plot, those that look the same in one line, with how many SNPs
+// they have; where they are many, not all of them are named.
+fn check_legend(findings: &mut Findings, texts: &[&str], contents: &Contents) {
+    let places = contents.places.iter();
+    let places = places.map(|(genotype, places)| (genotype.clone(), places.len()));
+    let mut unnamed: Counts = places.filter(|(_, count)| *count > 0).collect();
+    let mut untold: usize = unnamed.values().sum();
+    let mut are_all_named = true;
+    for (names, told) in texts.iter().filter_map(|text| legend_line(text)) {
+        let is_whole = !names.ends_with(" ...");
+        let names = names.trim_end_matches(" ...").split(", ");
+        let named: Option<usize> = names.map(|name| unnamed.remove(name)).sum();
+        let fits = named.is_some_and(|named| named == told || named < told && !is_whole);
+        findings.check(fits, || format!("{told} SNPs told, {named:?} named"));
+        untold = untold.wrapping_sub(told);
+        are_all_named &= is_whole;
+    }
+    let is_told = untold == 0 && (unnamed.is_empty() || !are_all_named);
+    findings.check(is_told, || format!("nothing is told of {unnamed:?}"));
+}
+
+// The names of genotypes and how many SNPs have them.
+fn legend_line(text: &str) -> Option<(&str, usize)> {
+    let told = text.strip_suffix(" SNPs").or(text.strip_suffix(" SNP"))?;
+    let (names, count) = told.split_once(": ")?;
+    let number = count.replace(',', "").parse().ok()?;
+    (grouped(number as i64) == count).then_some((names, number))
 }
 
 fn check_forbidden(findings: &mut Findings, root: &Element, contents: &Contents) {

@@ -51,7 +51,8 @@ fn cut_in_the_index(count: usize, behind: usize) -> Vec<u8> {
     draft.bytes()[..end].to_vec()
 }
 
-fn small_reads(count: usize, index: Option<Index>) -> Draft {
+/// Many small reads.
+pub fn small_reads(count: usize, index: Option<Index>) -> Draft {
     Draft::new(0, 0, vec![Read::new(b"", 0, &[]); count], index)
 }
 
