@@ -197,14 +197,14 @@ void chart_free(struct chart *chart) {
 }
 
 int row_height_above(const struct chart *chart) {
-    enum { WITHOUT_LETTERS = 20 };
+    enum { WITHOUT_LETTERS = 20, HALF_A_NUMBER = 8 };
     if (chart->length == 0) {
         return 0;
     }
     if (!chart->lettered) {
         return WITHOUT_LETTERS;
     }
-    return chart->qualified ? QUALITY_HEIGHT + LETTERS_HEIGHT + 8 : LETTERS_HEIGHT;
+    return chart->qualified ? QUALITY_HEIGHT + LETTERS_HEIGHT + HALF_A_NUMBER : LETTERS_HEIGHT;
 }
 
 int lane_height(const struct chart *chart) {

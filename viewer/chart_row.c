@@ -234,20 +234,23 @@ static void draw_ended_words(struct chart *chart, int channel, struct box box) {
     draw_words(chart->picture, "ended-words", words, x, box.y + box.height / 2 + 5, ROOM);
 }
 
-/* From the channel's last point to the row's. */
+/* From the channel's last point to the row's; never so narrow that it could not be seen. */
 static void draw_ended(struct chart *chart, int channel, uint64_t row, int64_t y) {
+    enum { NARROWEST = 20 };
     struct svg *svg = &chart->picture->svg;
     const struct series *series = &chart->run->channels[channel];
     uint64_t first = first_point(chart, row);
     uint64_t from = series->count > first ? column_tenths(chart, series->count - 1 - first) : 0;
     uint64_t to = column_tenths(chart, last_point(chart, row) - first);
+    uint64_t width = to - from > NARROWEST ? to - from : NARROWEST;
+    from = to > width ? to - width : 0;
     svg_format(svg, "<rect class=\"ended\" data-part=\"%s\" data-count=\"%" PRIu64 "\" x=\"", series->tag,
                series->count);
     svg_tenths(svg, (int64_t)from);
     svg_format(svg, "\" y=\"%" PRId64 "\" width=\"", y);
-    svg_tenths(svg, (int64_t)(to - from));
+    svg_tenths(svg, (int64_t)width);
     svg_format(svg, "\" height=\"%d\" fill=\"url(#hatch)\" stroke=\"#111\"/>", lane_height(chart) - 4);
-    struct box box = {(int64_t)from / 10, y, (int64_t)(to - from) / 10, lane_height(chart) - 4};
+    struct box box = {(int64_t)from / 10, y, (int64_t)width / 10, lane_height(chart) - 4};
     draw_ended_words(chart, channel, box);
 }
 

@@ -14,6 +14,8 @@ use std::collections::BTreeSet;
 
 /// What a tenth of a pixel at both ends of a box may come to.
 const BOX_ROUNDING: f64 = 0.150_001;
+/// How wide the box behind a channel's end is at least, so that it can be seen.
+const NARROWEST_BOX: f64 = 2.0;
 
 /// A row that is drawn, and its number from none.
 pub struct Row<'a> {
@@ -119,13 +121,15 @@ fn ended(row: &Row, contents: &Contents) -> Vec<Ended> {
     let ended = channels.filter(|it| it.length() < range.length && last >= it.length());
     let ended = ended.map(|channel| {
         let count = channel.length();
-        let x = range.place((count - 1).saturating_sub(first));
+        let [from, to] = [(count - 1).saturating_sub(first), last - first];
+        let [from, to] = [from, to].map(|point| range.place(point));
+        let width = (to - from).max(NARROWEST_BOX);
         let point = grouped(count as i64 - 1);
         Ended {
             part: channel.part.clone(),
             count,
-            x,
-            width: range.place(last - first) - x,
+            x: (to - width).max(0.0),
+            width,
             words: format!("{}: ends after point {point}", channel.label()),
         }
     });
