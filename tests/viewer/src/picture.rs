@@ -200,8 +200,7 @@ fn check_root(findings: &mut Findings, root: &Element, bytes: &[u8]) {
     });
 }
 
-// Boxes of a size, and nothing else, are hatched, by a pattern that is there; a channel's end may be
-// too short for a size.
+// Boxes of a size, and nothing else, are hatched, by a pattern that is there.
 fn check_hatching(findings: &mut Findings, root: &Element, is_used: bool) {
     for element in all(root) {
         let mut values = element.attributes.iter().map(|(_, value)| value.as_str());
@@ -211,11 +210,10 @@ fn check_hatching(findings: &mut Findings, root: &Element, is_used: bool) {
             continue;
         }
         let size = |name| number(element, name).unwrap_or(0.0);
-        let is_wide = size("width") > 0.0 || has_class(element, "ended");
         let is_sound = is_box
             && element.name == "rect"
             && element.attribute("fill") == Some(HATCHING)
-            && is_wide
+            && size("width") > 0.0
             && size("height") > 0.0;
         findings.check(is_sound, || format!("the hatched box {element:?}"));
     }
