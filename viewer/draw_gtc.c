@@ -249,8 +249,7 @@ static void draw_look(struct scatter *scatter, int class) {
             count += scatter->in_class[other];
         }
     }
-    svg_markup(&scatter->picture->svg, ": ");
-    svg_grouped(&scatter->picture->svg, (int64_t)count);
+    svg_format(&scatter->picture->svg, ": %s %s", with_commas(count).text, count == 1 ? "SNP" : "SNPs");
 }
 
 static bool is_first_of_its_look(const struct scatter *scatter, int class) {
@@ -272,7 +271,7 @@ static void draw_legend(struct scatter *scatter, int64_t y) {
                        genotype_mark(scatter, class));
             svg_format(svg, "<text x=\"%d\" y=\"%" PRId64 "\">", LEGEND_LEFT + 20, y + 15);
             draw_look(scatter, class);
-            svg_markup(svg, " SNPs</text>\n");
+            svg_markup(svg, "</text>\n");
             y += PART_HEIGHT;
         }
     }

@@ -29,6 +29,7 @@ struct flowgram {
     struct jt_sff_header header;
     struct jt_sff_read read;
     char part[32];
+    char label[48]; /* what the read is called in the picture */
     int64_t top;
     uint64_t rows;
     uint64_t kept_from; /* the flows of the first and the last base that are kept */
@@ -155,8 +156,8 @@ static void draw_flow_letter(struct flowgram *flowgram, uint64_t flow, uint64_t 
     svg_letter(svg, flow_letter(flowgram, flow));
     svg_markup(svg, "</text>");
     if (flow % 10 == 0 || flow == 1) {
-        svg_format(svg, "<text class=\"small middle\" x=\"%" PRIu64 "\" y=\"%d\">%" PRIu64 "</text>", x,
-                   PLOT_HEIGHT + 28, flow);
+        svg_format(svg, "<text class=\"small middle\" x=\"%" PRIu64 "\" y=\"%d\">%s</text>", x, PLOT_HEIGHT + 28,
+                   with_commas(flow).text);
     }
     svg_markup(svg, "\n");
 }
@@ -269,7 +270,7 @@ static void draw_legend(void *subject, uint64_t index, int64_t top) {
     int64_t y = top + 14;
     (void)index;
     svg_format(svg, "<text x=\"%d\" y=\"%" PRId64 "\"><tspan font-weight=\"bold\">%s</tspan> ", PICTURE_MARGIN, y,
-               flowgram->part);
+               flowgram->label);
     svg_fitted(svg, part_of(flowgram->picture->file, read->name_start, read->name_length), read->name_length, NAME_FONT,
                NAME_WIDTH);
     svg_format(svg, ": %s bases, ", with_commas(read->bases).text);
@@ -295,7 +296,7 @@ static void draw_refused_read(void *subject, uint64_t index, int64_t y) {
     struct flowgram *flowgram = subject;
     struct box box = {PICTURE_MARGIN, y, PICTURE_WIDTH - 2 * PICTURE_MARGIN, PLOT_HEIGHT};
     (void)index;
-    draw_refused(flowgram->picture, (struct refused){flowgram->part, flowgram->part, 0, flowgram->read.refusal, NULL},
+    draw_refused(flowgram->picture, (struct refused){flowgram->part, flowgram->label, 0, flowgram->read.refusal, NULL},
                  box);
 }
 
@@ -331,6 +332,7 @@ bool draw_sff(struct picture *picture, const struct draw_options *options) {
     flowgram->header = jt_sff_header(file->bytes, file->length);
     flowgram->read = jt_sff_read(file->bytes, file->length, options->read);
     snprintf(flowgram->part, sizeof flowgram->part, "read %" PRIu64, options->read);
+    snprintf(flowgram->label, sizeof flowgram->label, "read %s", with_commas(options->read).text);
     bool answered = flowgram->read.refusal == 0;
     if (answered) {
         lay_out(flowgram, sheet);

@@ -3,6 +3,7 @@
 #include "numbers.h"
 #include "run.h"
 #include "table.h"
+#include "text.h"
 #include "words.h"
 
 #include <inttypes.h>
@@ -152,7 +153,7 @@ static void draw_place_of_refusal(struct picture *picture) {
     if (entry == 0) {
         svg_markup(svg, headers[judgement->format]);
     } else {
-        svg_format(svg, "%s %" PRIu64, judgement->format == FORMAT_SFF ? "read" : "entry", entry);
+        svg_format(svg, "%s %s", judgement->format == FORMAT_SFF ? "read" : "entry", with_commas(entry).text);
     }
     if (entry != 0 && judgement->format == FORMAT_ABIF) {
         draw_tag(picture, entry);

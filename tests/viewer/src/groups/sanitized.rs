@@ -2,7 +2,7 @@
 
 use super::damaged::{abif_files, gtc_files, sff_files};
 use super::export::all_asked;
-use crate::drawing::{draw, Input, Wish, PLAIN};
+use crate::drawing::{draw, Input, Wish, PAPERS, PLAIN};
 use crate::findings::Findings;
 use crate::program::{Output, Program};
 use crate::scratch::Scratch;
@@ -19,14 +19,22 @@ use std::path::{Path, PathBuf};
 const DAMAGED: usize = 60;
 const MOST_TAGS: usize = 32;
 const REPORTS: [&str; 3] = ["Sanitizer", "runtime error", "==ERROR"];
-const WISHES: [Wish; 6] = [
+const ABIF_WISHES: [Wish; 5] = [
     PLAIN,
     Wish::raw(),
+    Wish::points(50),
+    Wish::points(1001),
+    Wish::pages(PAPERS[1]),
+];
+const SFF_WISHES: [Wish; 6] = [
+    PLAIN,
     Wish::read(0),
     Wish::read(1),
     Wish::read(3),
     Wish::read(4_294_967_296),
+    Wish::pages(PAPERS[2]),
 ];
+const OTHER_WISHES: [Wish; 2] = [PLAIN, Wish::pages(PAPERS[3])];
 
 pub fn sanitized(group: &mut Group) {
     let program = Program::sanitized();
@@ -74,7 +82,7 @@ fn compare_all(group: &mut Group, inputs: &[Input], every_command: bool) {
     let findings = workers::each(inputs.len(), |worker, index| {
         let file = scratch.write(format!("file-{worker}"), &inputs[index].bytes);
         let both = Both {
-            picture: scratch.path(format!("picture-{worker}.svg")),
+            picture: scratch.path(format!("picture-{worker}")),
             file,
             findings: Findings::default(),
         };
@@ -137,8 +145,9 @@ impl Both {
     }
 
     fn compare_picture(&mut self, wish: Wish) {
-        let plain = draw(&Program::plain(), &self.file, &self.picture, wish);
-        let sanitized = draw(&Program::sanitized(), &self.file, &self.picture, wish);
+        let picture = self.picture.with_extension(wish.ending());
+        let plain = draw(&Program::plain(), &self.file, &picture, wish);
+        let sanitized = draw(&Program::sanitized(), &self.file, &picture, wish);
         self.check_reports(
             &sanitized.output,
             &wish.arguments(&self.file, Path::new("")),
@@ -164,9 +173,9 @@ impl Both {
 
 fn wishes(bytes: &[u8]) -> Vec<Wish> {
     match Format::of(bytes) {
-        Format::Abif => WISHES[..2].to_vec(),
-        Format::Sff => WISHES.to_vec(),
-        _ => vec![PLAIN, Wish::read(0)],
+        Format::Abif => ABIF_WISHES.to_vec(),
+        Format::Sff => SFF_WISHES.to_vec(),
+        _ => OTHER_WISHES.to_vec(),
     }
 }
 
