@@ -81,7 +81,7 @@ int row_height(const struct chart *chart, uint64_t row);
 int lane_height(const struct chart *chart);
 
 /* Draws a row with its top at `y`; and the letters above a row's plot, and the boxes below it. */
-void draw_row(void *chart, uint64_t row, int64_t y);
+void draw_row(struct chart *chart, uint64_t row, int64_t y);
 void draw_letters(struct chart *chart, uint64_t row);
 void draw_lanes(struct chart *chart, uint64_t row);
 

@@ -267,8 +267,7 @@ void draw_lanes(struct chart *chart, uint64_t row) {
     }
 }
 
-void draw_row(void *subject, uint64_t row, int64_t y) {
-    struct chart *chart = subject;
+void draw_row(struct chart *chart, uint64_t row, int64_t y) {
     struct svg *svg = &chart->picture->svg;
     const struct chart_row *drawn = &chart->rows[row];
     svg_format(svg, "<g class=\"row\" data-first=\"%" PRIu64 "\" data-points=\"%" PRIu64 "\" data-top=\"%" PRId64 "\" ",

@@ -15,7 +15,7 @@ enum { PART_FONT = 13, PART_TEXT_LEFT = 48, NOTE_HEIGHT = 20, MOST_NOTES = 12, N
 
 /* An ABIF picture: its chart, the parts that the file has beside its channels, and what is to be said of them. */
 struct abif_picture {
-    struct chart *chart; /* the first, so that its blocks can be drawn from it alone */
+    struct chart *chart;
     int part_count;
     const struct series *parts[BASES + 1];
     int note_count;
