@@ -3,18 +3,17 @@
 use crate::abif::files::shorts;
 use crate::drawing::{check_all_with, read, Input, Paper, Wish, PLAIN};
 use crate::picture::{number, of_class};
-use crate::program::Program;
+use crate::program::{output, Output, Program};
 use crate::scratch::Scratch;
 use crate::xml::Element;
 use compare::abif::generate::{plain_file, Content, Order};
 use compare::abif::reader::Tag;
 use compare::report::Group;
 use std::fs::{self, OpenOptions};
+use std::io;
 use std::os::unix::fs::FileExt;
 use std::path::{Path, PathBuf};
-use std::process::{Command, Stdio};
-use std::thread::sleep;
-use std::time::Duration;
+use std::process::Command;
 
 /// So many points has each of four channels.
 const POINTS: i32 = 500_000_000;
@@ -22,7 +21,6 @@ const POINTS: i32 = 500_000_000;
 const POINTS_IN_A_ROW: u64 = 2_500_000;
 const MOST_ROWS: usize = 200;
 const MOST_KILOBYTES: u64 = 200_000;
-const BETWEEN_LOOKS: Duration = Duration::from_millis(10);
 
 /// The one high point of the long run.
 const PEAK_PLACE: u64 = 311_111_111;
@@ -35,10 +33,9 @@ pub fn memory(group: &mut Group) {
     for wish in [PLAIN, pages, Wish::points(POINTS_IN_A_ROW)] {
         group.input();
         let picture = scratch.path(format!("picture.{}", wish.ending()));
-        let kilobytes = kilobytes_taken(&file, &picture, wish);
-        group.check(kilobytes.is_some_and(|it| it < MOST_KILOBYTES), &[], || {
-            format!("{wish:?}: {kilobytes:?} kilobytes")
-        });
+        let drawn = draw_in_little_memory(&file, &picture, wish);
+        let is_drawn = matches!(&drawn, Ok(output) if output.status == Some(0));
+        group.check(is_drawn, &[], || format!("{wish:?}: {drawn:?}"));
         let read = read(&fs::read(&picture).unwrap_or_default(), wish);
         let root = read.unwrap_or_default();
         check_rows(group, &root, wish);
@@ -69,27 +66,14 @@ fn long_run(scratch: &Scratch) -> PathBuf {
     path
 }
 
-// The most memory of its own that the viewer had at any look; None where it failed.
-fn kilobytes_taken(file: &Path, picture: &Path, wish: Wish) -> Option<u64> {
-    let mut command = Command::new(Program::plain().path());
+// Draws with no more memory of its own than that; the mapped file does not count.
+fn draw_in_little_memory(file: &Path, picture: &Path, wish: Wish) -> io::Result<Output> {
+    let limited = format!("ulimit -d {MOST_KILOBYTES} && exec \"$@\"");
+    let mut command = Command::new("sh");
+    command.args(["-c", &limited, "sh"]);
+    command.arg(Program::plain().path());
     command.args(wish.arguments(file, picture));
-    let mut child = command.stdout(Stdio::null()).spawn().ok()?;
-    let status = PathBuf::from(format!("/proc/{}/status", child.id()));
-    let mut most = 0;
-    loop {
-        let text = fs::read_to_string(&status).unwrap_or_default();
-        most = most.max(field(&text, "RssAnon:") + field(&text, "VmSwap:"));
-        match child.try_wait().ok()? {
-            Some(ended) => return ended.success().then_some(most).filter(|&most| most > 0),
-            None => sleep(BETWEEN_LOOKS),
-        }
-    }
-}
-
-fn field(status: &str, name: &str) -> u64 {
-    let mut lines = status.lines().filter_map(|line| line.strip_prefix(name));
-    let numbers = lines.next().unwrap_or("").split_whitespace().next();
-    numbers.and_then(|number| number.parse().ok()).unwrap_or(0)
+    output(command)
 }
 
 // No more rows than are drawn of any run, the rest told, and the peak where its row is drawn.
