@@ -65,18 +65,28 @@ fn many(code: i16, data: Vec<u8>) -> Vec<u8> {
     plain_file(&items, Order::DirectoryFirst).bytes()
 }
 
+// The last result, and the least time of three, since others may be at work.
+fn quickest<R>(run: impl Fn() -> R) -> (R, Duration) {
+    let timed = || {
+        let start = Instant::now();
+        (run(), start.elapsed())
+    };
+    let times = [timed().1, timed().1];
+    let (result, time) = timed();
+    (result, times.into_iter().fold(time, Duration::min))
+}
+
 // Each element takes no longer because of the tags before its own.
 fn many_elements(group: &mut Group, scratch: &Scratch) {
     let data = [0, 1, 2, 0].repeat(MANY / 4);
     let file = scratch.write("bools", &many(BOOL, data));
-    let start = Instant::now();
-    let output = Program::plain().run(&[
+    let arguments = [
         "show".as_ref(),
         file.as_os_str(),
         "MANY".as_ref(),
         "1".as_ref(),
-    ]);
-    let time = start.elapsed();
+    ];
+    let (output, time) = quickest(|| Program::plain().run(&arguments));
     group.input();
     group.check(time < MOST_TIME, &[], || {
         format!("{MANY} bools in {time:?}")
