@@ -54,6 +54,8 @@ fn labelled_files() -> Vec<Input> {
     let dense: Vec<i16> = (0..240).map(|index| 2 * index + 1).collect();
     let levels = [30_000, 10, 0, -10];
     files.push(Input::new("dense.ab1", lettered(1400, &dense)));
+    let shuffled: Vec<i16> = (0..240).map(|index| 2 * (97 * index % 240) + 1).collect();
+    files.push(Input::new("shuffled.ab1", lettered(1400, &shuffled)));
     files.push(Input::new("levels.ab1", levelled(levels)));
     files.push(Input::new(
         "uneven.ab1",
