@@ -239,10 +239,16 @@ const char *channel_dashes(const struct run *run, int channel) {
     return dashes[base != 0 ? strchr(bases, base) - bases : (channel + channel / DASHES) % DASHES];
 }
 
+struct channel_label channel_label(const struct run *run, int channel) {
+    struct channel_label label;
+    const char *tag = run->channels[channel].tag;
+    char base = run->bases[channel];
+    snprintf(label.text, sizeof label.text, base != 0 ? "%s, base %c" : "%s", tag, base);
+    return label;
+}
+
 void draw_refused_channel(struct chart *chart, int channel, struct box box) {
     const struct series *series = &chart->run->channels[channel];
-    char base = chart->run->bases[channel];
-    char label[32];
-    snprintf(label, sizeof label, base != 0 ? "%s, base %c" : "%s", series->tag, base);
-    draw_refused(chart->picture, (struct refused){series->tag, label, 0, series->refusal, NULL}, box);
+    struct channel_label label = channel_label(chart->run, channel);
+    draw_refused(chart->picture, (struct refused){series->tag, label.text, 0, series->refusal, NULL}, box);
 }

@@ -85,6 +85,13 @@ void draw_row(struct chart *chart, uint64_t row, int64_t y);
 void draw_letters(struct chart *chart, uint64_t row);
 void draw_lanes(struct chart *chart, uint64_t row);
 
+/* What a channel is called, as in "DATA 12, base C". */
+struct channel_label {
+    char text[32];
+};
+
+struct channel_label channel_label(const struct run *run, int channel);
+
 /* The hatched box in the place of a refused channel. */
 void draw_refused_channel(struct chart *chart, int channel, struct box box);
 

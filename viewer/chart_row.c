@@ -218,12 +218,9 @@ static void draw_plot(struct chart *chart, uint64_t row) {
 /* The words go where there is room: before the box, behind it, or in it. */
 static void draw_ended_words(struct chart *chart, int channel, struct box box) {
     enum { GAP = 10, ROOM = 340 };
-    const struct series *series = &chart->run->channels[channel];
-    char base = chart->run->bases[channel];
     char words[96];
-    int length = snprintf(words, sizeof words, base != 0 ? "%s, base %c" : "%s", series->tag, base);
-    snprintf(words + length, sizeof words - (size_t)length, ": ends after point %s",
-             with_commas(series->count - 1).text);
+    snprintf(words, sizeof words, "%s: ends after point %s", channel_label(chart->run, channel).text,
+             with_commas(chart->run->channels[channel].count - 1).text);
     int64_t width = box_words_width(words);
     int64_t x = box.x + GAP;
     if (box.x >= width + GAP) {

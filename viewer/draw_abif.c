@@ -116,6 +116,7 @@ static void begin_fold(struct picture *picture, int64_t y) {
                PLOT_LEFT, y, PLOT_WIDTH, FOLD_HEIGHT - 18);
 }
 
+/* What stands in the place of the flat rows in front. */
 static void draw_front(void *subject, uint64_t index, int64_t y) {
     struct abif_picture *abif = subject;
     struct chart *chart = abif->chart;
@@ -136,6 +137,7 @@ static void draw_front(void *subject, uint64_t index, int64_t y) {
                y + 38, chart->folded, chart->folded == 1 ? "row" : "rows");
 }
 
+/* What stands in the place of the rows that a picture has no room for. */
 static void draw_left_out(void *subject, uint64_t index, int64_t y) {
     struct abif_picture *abif = subject;
     struct chart *chart = abif->chart;
@@ -239,6 +241,7 @@ static void note_letters(struct abif_picture *abif) {
     }
 }
 
+/* The gap before the rows has what cuts their traces off at the plots' edges. */
 static void draw_clip_path(void *subject, uint64_t index, int64_t y) {
     struct abif_picture *abif = subject;
     (void)index;

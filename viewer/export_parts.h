@@ -23,8 +23,8 @@ void export_gtc(struct export *export);
    there is not. False where it cannot be opened, which is told, or was not written so far. */
 bool export_opens(struct export *export);
 
-/* Tells why something of the file is not exported, and of a part, what it is refused
-   with, in words and by its number; the status tells it too. */
+/* Tells why something of the file is not exported, and of a part, what it is refused with, in words and by its number;
+   the status tells it too. */
 void export_lacks(struct export *export, const char *reason);
 void export_lacks_refused(struct export *export, const char *what, const char *words, uint64_t refusal);
 

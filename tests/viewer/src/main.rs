@@ -13,6 +13,7 @@ mod picture;
 mod printer;
 mod program;
 mod scratch;
+mod screen;
 mod sentences;
 mod sff;
 mod sheet;

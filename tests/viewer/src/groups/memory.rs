@@ -5,6 +5,7 @@ use crate::drawing::{check_all_with, read, Input, Paper, Wish, PLAIN};
 use crate::picture::{number, of_class};
 use crate::program::{output, Output, Program};
 use crate::scratch::Scratch;
+use crate::screen;
 use crate::xml::Element;
 use compare::abif::generate::{plain_file, Content, Order};
 use compare::abif::reader::Tag;
@@ -40,6 +41,8 @@ pub fn memory(group: &mut Group) {
         let root = read.unwrap_or_default();
         check_rows(group, &root, wish);
     }
+    let words = format!("draw run.ab1 --points {POINTS_IN_A_ROW} -o terminal.svg >line");
+    screen::check_progress(group, scratch.folder(), &words, "drawing: ");
     single_peak(group);
 }
 

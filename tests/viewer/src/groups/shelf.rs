@@ -1,7 +1,8 @@
 //! Folders of files: their lines, the summary, and the progress on a terminal.
 
-use crate::program::{output, Output, Program};
+use crate::program::{Output, Program};
 use crate::scratch::Scratch;
+use crate::screen;
 use crate::sentences;
 use crate::verdict::{self, Format};
 use compare::report::Group;
@@ -198,55 +199,10 @@ fn on_a_terminal(group: &mut Group, scratch: &Scratch) {
     for number in 0..FILES_FOR_THE_TERMINAL {
         scratch.write(format!("many/{number}.sff"), &bytes);
     }
-    let program = Program::plain();
-    let mut command = Command::new("script");
-    command
-        .current_dir(scratch.folder())
-        .env("JTVIEW", program.path());
-    command.args(["-qec", "\"$JTVIEW\" many >lines", "/dev/null"]);
-    let Ok(output) = output(command) else {
-        return group.check(false, &[], || "no terminal".to_string());
-    };
-    let written = output.stdout_text();
-    group.input();
-    group.check(
-        written.contains('\r') && written.contains("400 files"),
-        &[],
-        || format!("no progress: {written:?}"),
-    );
-    let left = left_on_screen(&written);
-    group.check(left.is_empty(), &[], || {
-        format!("left {left:?} of {written:?}")
-    });
+    screen::check_progress(group, scratch.folder(), "many >lines", "400 files");
     let lines = fs::read(scratch.path("lines")).unwrap_or_default();
     let expected = Tally::of(scratch.folder(), &["many"]).printed();
     group.check(lines == expected, &[], || {
         "other lines on a terminal".to_string()
     });
-}
-
-// What a terminal shows after these letters, carriage returns and erasings.
-fn left_on_screen(written: &str) -> String {
-    let mut screen = String::new();
-    for line in written.split('\n') {
-        let mut shown: Vec<char> = Vec::new();
-        for piece in line.split('\r') {
-            let erased = piece.starts_with("\x1B[K") || piece.starts_with("\x1B[2K");
-            if erased {
-                shown.clear();
-            }
-            let letters: Vec<char> = without_codes(piece).chars().collect();
-            let kept = shown.split_off(letters.len().min(shown.len()));
-            shown = [letters, kept].concat();
-            if piece.ends_with("\x1B[K") {
-                shown.clear();
-            }
-        }
-        screen.extend(shown);
-    }
-    screen.trim().to_string()
-}
-
-fn without_codes(piece: &str) -> String {
-    piece.replace("\x1B[2K", "").replace("\x1B[K", "")
 }
