@@ -1,5 +1,4 @@
 -- What passes the checks of the reading calls of ABIF, for the files that a writer makes.
--- Assumes nothing.
 use Prim.Native.Nat.{ℕ, _+_, _-_, _*_, _≤_, _<_, max}
 use mathlib.Core.Path.{_≡_, refl, sym}
 use mathlib.Core.List.{List}
@@ -15,7 +14,7 @@ use Rattle.reading.specs.Check.{ok, refused, answer, holds, done, must, need, _
 use Rattle.reading.specs.Entries.{firstWith, oneWith}
 use Rattle.reading.proofs.Cut.{answer-plain}
 use Rattle.reading.proofs.Steps.{answer-bind, answer-must, answer-done, answer-need-present}
-use Rattle.reading.proofs.entries.Laws.{first-none, one-none, one-found, order-passes}
+use Rattle.reading.proofs.Entries.{first-none, one-none, one-found, order-passes}
 use Rattle.abif.specs.declared.entry.Entry.{Entry}
 use Rattle.abif.specs.Entry.{entryOf, hasTag, typeOf, dataOffset, listedCheck, rawCheck, sizesCheck, placeCheck, entryCheck}
 use Rattle.abif.specs.Directory.{Directory, directoryEnd, headerCheck, boundsCheck, directory, opening}

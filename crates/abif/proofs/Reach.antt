@@ -1,5 +1,4 @@
 -- What the reading calls of ABIF need: judging just the extent that it answers, and no other call more.
--- Assumes nothing.
 use Prim.Native.Nat.{ℕ, _+_, _*_, _≤_, _<_, max, min}
 use mathlib.Core.Path.{_≡_, sym, _∙_, ap, subst}
 use mathlib.Core.List.{List}
@@ -9,13 +8,14 @@ use lib.ListN.{length, take, length-take}
 use lib.Dec.{leb, eqb}
 use Rattle.reading.specs.Choice.{pick}
 use Rattle.reading.specs.declared.check.Rule.the-variants.{AtLeast}
-use Rattle.reading.specs.Check.{Check, ok, answer, reach, done, must, need, _>>=_, _>>_}
+use Rattle.reading.specs.Check.{Check, ok, answer, done, must, need, _>>=_, _>>_}
+use Rattle.reading.proofs.Needed.{reach}
 use Rattle.reading.specs.Entries.{inOrder}
 use Rattle.reading.proofs.Cut.{answer-same}
 use Rattle.reading.proofs.Steps.{reach-done, reach-must, reach-need}
 use Rattle.reading.proofs.Passed.{bind-ok, done-ok, ok-inj}
 use Rattle.reading.proofs.Reach.{reach-none, reach-under, reach-must-under, reach-need-under, reach-pick-under, reach-done-under}
-use Rattle.reading.proofs.entries.Laws.{one-ok, one-needs-none, order-ends}
+use Rattle.reading.proofs.Entries.{one-ok, one-needs-none, order-ends}
 use Rattle.abif.specs.declared.lookup.ItemData.{ItemData}
 use Rattle.abif.specs.declared.entry.Entry.{Entry}
 use Rattle.abif.specs.declared.entry.ElementType.{ElementType}

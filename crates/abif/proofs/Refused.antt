@@ -1,5 +1,4 @@
 -- The refusals of ABIF's reading calls. P is what holds of these, their numbers and their entries.
--- Assumes nothing.
 use Prim.Native.Nat.{ℕ, _+_, _*_}
 use mathlib.Core.Path.{_≡_, refl}
 use mathlib.Core.List.{List}
@@ -8,7 +7,7 @@ use lib.Dec.{leb}
 use Rattle.reading.specs.Choice.{isNumberOf}
 use Rattle.reading.specs.Check.{holds}
 use Rattle.reading.proofs.Refused.{Refuses, refuses-done, refuses-must, refuses-need, refuses-bind, refuses-pick}
-use Rattle.reading.proofs.entries.Laws.{one-refuses, order-refuses}
+use Rattle.reading.proofs.Entries.{one-refuses, order-refuses}
 use Rattle.abif.specs.declared.entry.Entry.{Entry}
 use Rattle.abif.specs.declared.entry.ElementType.{ElementType}
 use Rattle.abif.specs.declared.entry.ElementType.the-variants.{Listed, Raw, Unknown}

@@ -1,5 +1,4 @@
 -- ABIF: the elements of a whole-number item, from number `first` on.
--- Assumes nothing.
 use Prim.Native.Nat.{ℕ, zero, suc, _+_}
 use mathlib.Core.List.{List, [], _∷_}
 use mathlib.Core.Bool.{Bool}

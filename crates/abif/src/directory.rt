@@ -11,7 +11,7 @@ ghost use mathlib.Core.Path.{_≡_};
 ghost use mathlib.Core.List.{List};
 ghost use Prim.Native.Nat.{ℕ, _<_};
 ghost use Rattle.reading.specs.Check.{run, answer};
-ghost use Rattle.reading.specs.Explain.{tested};
+ghost use Rattle.reading.specs.Answers.{outcomeOfTested};
 ghost use Rattle.abif.specs.Directory.{headerCheck, boundsCheck, opening, read, opened};
 
 // What opening finds: the directory's place and count, or the refusal.
@@ -29,7 +29,7 @@ pub(crate) enum Header {
 
 fn header_tests(mark: u32, version: u16, d: Entry) -> Tested
     requires { ⌜ d .place < 0x8000000000000000 ⌝ }
-    ensures { λ r. ⌜ ((l : List ℕ) → tested r ≡ run (headerCheck mark version d) l) ⌝ }
+    ensures { λ r. ⌜ ((l : List ℕ) → outcomeOfTested r ≡ run (headerCheck mark version d) l) ⌝ }
 {
     let name = Field {
         place: d.place,
@@ -121,7 +121,7 @@ fn header_tests(mark: u32, version: u16, d: Entry) -> Tested
 
 fn bounds_tests(d: Entry) -> Tested
     requires { ⌜ d .place < 0x8000000000000000 ⌝ }
-    ensures { λ r. ⌜ ((l : List ℕ) → tested r ≡ run (boundsCheck d) l) ⌝ }
+    ensures { λ r. ⌜ ((l : List ℕ) → outcomeOfTested r ≡ run (boundsCheck d) l) ⌝ }
 {
     let count = Field {
         place: d.place + 12,

@@ -11,7 +11,7 @@ ghost use Prim.Native.Nat.{ℕ, _+_, _-_, _*_, _≤_, _<_};
 ghost use lib.ListN.{length};
 ghost use Rattle.reading.specs.Check.{run};
 ghost use Rattle.reading.specs.Entries.{firstWith};
-ghost use Rattle.reading.specs.Explain.{tested};
+ghost use Rattle.reading.specs.Answers.{outcomeOfTested};
 ghost use Rattle.abif.specs.Entry.{entryOf, hasTag, typeOf, listedCheck, rawCheck, sizesCheck, placeCheck, entryCheck, item};
 
 // A directory entry with its place; a signed field as its unsigned number.
@@ -114,7 +114,7 @@ pub fn type_of(k: u16) -> ElementType
 
 fn listed_tests(w: u16, d: Entry) -> Tested
     requires { ⌜ d .place < 0x8000000000000000 ⌝ }
-    ensures { λ r. ⌜ ((l : List ℕ) → tested r ≡ run (listedCheck w d) l) ⌝ }
+    ensures { λ r. ⌜ ((l : List ℕ) → outcomeOfTested r ≡ run (listedCheck w d) l) ⌝ }
 {
     let width = Field {
         place: d.place + 10,
@@ -175,7 +175,7 @@ fn listed_tests(w: u16, d: Entry) -> Tested
 
 fn raw_tests(d: Entry) -> Tested
     requires { ⌜ d .place < 0x8000000000000000 ⌝ }
-    ensures { λ r. ⌜ ((l : List ℕ) → tested r ≡ run (rawCheck d) l) ⌝ }
+    ensures { λ r. ⌜ ((l : List ℕ) → outcomeOfTested r ≡ run (rawCheck d) l) ⌝ }
 {
     let width = Field {
         place: d.place + 10,
@@ -221,7 +221,7 @@ fn raw_tests(d: Entry) -> Tested
 
 fn sizes_tests(k: ElementType, d: Entry) -> Tested
     requires { ⌜ d .place < 0x8000000000000000 ⌝ }
-    ensures { λ r. ⌜ ((l : List ℕ) → tested r ≡ run (sizesCheck k d) l) ⌝ }
+    ensures { λ r. ⌜ ((l : List ℕ) → outcomeOfTested r ≡ run (sizesCheck k d) l) ⌝ }
 {
     match k {
         ElementType::Listed(w) => listed_tests(w, d),

@@ -5,7 +5,7 @@ use crate::element::width_of;
 use crate::lookup::Found;
 use crate::lookup::ItemData;
 use crate::lookup::lookup;
-use reading::bulk::smaller;
+use reading::order::smaller;
 ghost use mathlib.Core.Path.{_≡_};
 ghost use mathlib.Core.List.{_++_};
 ghost use Prim.Native.Nat.{_+_, _*_, _≤_};

@@ -1,10 +1,10 @@
 -- What raw entries, listing and the calls of an opened file need: no more than the extent.
--- Assumes nothing.
 use Prim.Native.Nat.{ℕ, _≤_}
 use mathlib.Core.Path.{_≡_}
 use mathlib.Core.List.{List}
 use mathlib.Core.Bool.{Bool}
-use Rattle.reading.specs.Check.{Check, ok, answer, reach, done, provided, _>>=_, _>>_}
+use Rattle.reading.specs.Check.{Check, ok, answer, done, provided, _>>=_, _>>_}
+use Rattle.reading.proofs.Needed.{reach}
 use Rattle.reading.proofs.Reach.{reach-under, reach-must-under, reach-done-under}
 use Rattle.abif.specs.Directory.{Directory, directory}
 use Rattle.abif.specs.Judge.{judging}

@@ -1,5 +1,4 @@
 -- The refusals of the calls that list the directory, and of an opened file's. P is what holds of these.
--- Assumes nothing.
 use Prim.Native.Nat.{ℕ}
 use mathlib.Core.Path.{_≡_, refl}
 use mathlib.Core.List.{List}

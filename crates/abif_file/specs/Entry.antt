@@ -1,10 +1,9 @@
 -- ABIF: the raw entries of the directory.
--- Assumes nothing.
 use Prim.Native.Nat.{ℕ, _+_, _-_, _*_}
 use mathlib.Core.List.{List}
 use Rattle.reading.specs.Choice.{isNumberOf}
 use Rattle.reading.specs.Number.{be}
-use Rattle.reading.specs.Check.{Check, Answer, ok, refused, signedField, stood, done, provided, _>>=_, _>>_}
+use Rattle.reading.specs.Check.{Check, Answer, ok, refused, signedField, fieldValue, done, provided, _>>=_, _>>_}
 use Rattle.abif_file.specs.declared.entry.RawEntry.{RawEntry}
 use Rattle.abif_file.specs.declared.entry.EntryFound.{EntryFound}
 use Rattle.abif_file.specs.declared.entry.EntryFound.the-variants.{At, Refused}
@@ -17,13 +16,13 @@ rawEntry h p =
     let d = entryOf h p in
     record {
       name = d .name;
-      number = stood (number d);
-      «element_type» = stood (elementType d);
-      «element_size» = stood (elementSize d);
-      «element_count» = stood (elementCount d);
-      «data_size» = stood (dataSize d);
-      «data_offset» = stood (dataOffset d);
-      «data_handle» = stood (signedField 4 (p + 24) (be 4 h (p + 24)));
+      number = fieldValue (number d);
+      «element_type» = fieldValue (elementType d);
+      «element_size» = fieldValue (elementSize d);
+      «element_count» = fieldValue (elementCount d);
+      «data_size» = fieldValue (dataSize d);
+      «data_offset» = fieldValue (dataOffset d);
+      «data_handle» = fieldValue (signedField 4 (p + 24) (be 4 h (p + 24)));
     }
 
 -- entry i of the directory, from one: the header and directory checks, then no such entry 7

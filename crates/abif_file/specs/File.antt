@@ -1,5 +1,4 @@
 -- ABIF: what opening a file gives.
--- Assumes nothing.
 use Prim.Native.Nat.{ℕ}
 use mathlib.Core.List.{List}
 use denote.Ref.{RefT, now}

@@ -1,5 +1,4 @@
 -- ABIF: the raw entries of the directory, into a list of records that the caller lends.
--- Assumes nothing.
 use Prim.Native.Nat.{ℕ, zero, suc, _+_, _*_, _≤_, _<_}
 use mathlib.Core.List.{List, [], _∷_}
 use lib.Dec.{leb}

@@ -1,5 +1,4 @@
 -- ABIF: the calls of an opened file, document 01's term for a file's bytes together with its directory's place and count.
--- Assumes nothing.
 use Prim.Native.Nat.{ℕ}
 use lib.Dec.{eqb}
 use Rattle.reading.specs.Check.{Check, Answer, ok, refused, provided, _>>=_, _>>_}

@@ -1,5 +1,4 @@
 -- The refusals of the ABIF writer. P is what holds of these, at 0.
--- Assumes nothing.
 use Prim.Native.Nat.{ℕ, zero, suc, _+_, _*_}
 use mathlib.Core.List.{List}
 use lib.Dec.{eqb}

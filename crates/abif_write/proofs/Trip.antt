@@ -1,5 +1,4 @@
 -- The round trip: a written file is judged whole, each item is found as it was given, and nothing else is found.
--- Assumes nothing.
 use Prim.Native.Nat.{ℕ, zero, suc, _+_, _-_, _*_, _^_, _≤_, _<_}
 use mathlib.Core.Path.{_≡_, refl, sym, _∙_, ap, subst}
 use mathlib.Core.List.{List, _++_, append-assoc}
@@ -16,7 +15,7 @@ use Rattle.reading.specs.Choice.{pick}
 use Rattle.reading.specs.Number.{be, bits}
 use Rattle.reading.specs.Check.{ok, refused, answer, holds}
 use Rattle.reading.specs.Entries.{firstWith}
-use Rattle.reading.proofs.entries.Laws.{first-none, first-is}
+use Rattle.reading.proofs.Entries.{first-none, first-is}
 use Rattle.reading.proofs.Signs.{half}
 use Rattle.reading.proofs.Steps.{answer-bind, answer-must}
 use Rattle.reading.proofs.Tests.{no}

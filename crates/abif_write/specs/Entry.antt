@@ -1,5 +1,4 @@
 -- ABIF: the bytes of a directory entry and of the header.
--- Assumes nothing.
 use Prim.Native.Nat.{ℕ, _*_}
 use mathlib.Core.List.{List, _++_}
 use lib.Dec.{leb}

@@ -1,5 +1,4 @@
 -- ABIF: the file that is made of the items.
--- Assumes nothing.
 use Prim.Native.Nat.{ℕ, zero, suc, _+_, _*_}
 use mathlib.Core.List.{List, [], _++_}
 use lib.Dec.{leb}

@@ -1,5 +1,4 @@
 -- ABIF: the items that the writer is lent, and their checks in document 01's order.
--- Assumes nothing.
 use Prim.Native.Nat.{ℕ, zero, suc, _+_, _*_, _≤_, _<_}
 use mathlib.Core.Path.{_≡_}
 use mathlib.Core.List.{List}

@@ -1,5 +1,4 @@
 -- ABIF: what the contents of an item must be, by the reading calls' own rules for dates, times and texts.
--- Assumes nothing.
 use Prim.Native.Nat.{ℕ, zero, suc, _+_, _*_}
 use mathlib.Core.List.{List}
 use mathlib.Core.Bool.{Bool}

@@ -1,5 +1,4 @@
 -- ABIF: writing a file, as document 01 says it: the checks of all items, then those of the whole.
--- Assumes nothing.
 use Prim.Native.Nat.{ℕ}
 use mathlib.Core.List.{List}
 use lib.IntN.{ℤ}

@@ -1,5 +1,4 @@
 -- The struct that each answer of an ABIF call is for a C program.
--- Assumes nothing.
 use Prim.Native.Nat.{ℕ}
 use lib.IntN.{ℤ, pos}
 use lib.Ieee.{Float}

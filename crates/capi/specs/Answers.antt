@@ -1,5 +1,4 @@
 -- The struct that each answer of document 01 is for a C program.
--- Assumes nothing.
 use Prim.Native.Nat.{ℕ}
 use lib.Ieee.{Float, binary32, binary64, ofBits}
 use Rattle.reading.specs.Check.{Answer, ok, refused}

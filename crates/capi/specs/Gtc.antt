@@ -1,5 +1,4 @@
 -- The struct that each answer of a GTC call is for a C program.
--- Assumes nothing.
 use Prim.Native.Nat.{ℕ}
 use lib.IntN.{pos}
 use Rattle.reading.specs.Check.{Answer, ok, refused}

@@ -1,5 +1,4 @@
 -- The struct that each answer of an SFF call is for a C program.
--- Assumes nothing.
 use Prim.Native.Nat.{ℕ, _+_}
 use Rattle.reading.specs.Check.{Answer, ok, refused}
 use Rattle.sff.specs.declared.position.FlowPosition.{FlowPosition}

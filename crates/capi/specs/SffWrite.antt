@@ -1,5 +1,4 @@
 -- The struct that each answer of the SFF writer is for a C program.
--- Assumes nothing.
 use Prim.Native.Nat.{ℕ}
 use Rattle.reading.specs.Check.{Answer, ok, refused}
 use Rattle.sff_write.specs.declared.read.Clips.{Clips}

@@ -1,5 +1,4 @@
 -- The arrays that lookup finds: their size is that of their elements, and those with one element for each SNP have equal counts.
--- Assumes nothing.
 use Prim.Native.Nat.{ℕ, _*_}
 use mathlib.Core.Path.{_≡_, sym, _∙_, ap, subst}
 use mathlib.Core.List.{List}

@@ -1,17 +1,17 @@
 -- What the reading calls of GTC need: judging just the extent that it answers, and no other call more.
--- Assumes nothing.
 use Prim.Native.Nat.{ℕ, _+_, _≤_, _<_, max, min}
 use mathlib.Core.Path.{_≡_, refl, sym, _∙_, ap, subst}
 use mathlib.Core.List.{List}
 use native.Mathlib.Omega.{arith}
 use lib.ListN.{length, take, length-take}
-use Rattle.reading.specs.Check.{ok, answer, reach}
+use Rattle.reading.specs.Check.{ok, answer}
+use Rattle.reading.proofs.Needed.{reach}
 use Rattle.reading.specs.Entries.{inOrder}
 use Rattle.reading.proofs.Cut.{answer-same}
 use Rattle.reading.proofs.Steps.{reach-done, reach-must, reach-need}
 use Rattle.reading.proofs.Passed.{bind-ok, done-ok, ok-inj}
 use Rattle.reading.proofs.Reach.{reach-none, reach-under, reach-must-under, reach-need-under, reach-done-under}
-use Rattle.reading.proofs.entries.Laws.{beyond, order-ends}
+use Rattle.reading.proofs.Entries.{beyond, order-ends}
 use Rattle.gtc.specs.declared.entry.Entry.{Entry}
 use Rattle.gtc.specs.declared.item.Stored.{Stored}
 use Rattle.gtc.specs.declared.item.Listing.{Listing}

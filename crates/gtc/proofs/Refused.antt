@@ -1,5 +1,4 @@
 -- The refusals of GTC's reading calls. P is what holds of these, their numbers and their entries.
--- Assumes nothing.
 use Prim.Native.Nat.{ℕ, _+_}
 use mathlib.Core.Path.{_≡_}
 use mathlib.Core.Bool.{false}
@@ -7,7 +6,7 @@ use mathlib.Core.List.{List}
 use lib.Dec.{leb}
 use Rattle.reading.specs.Check.{holds}
 use Rattle.reading.proofs.Refused.{Refuses, refuses-done, refuses-must, refuses-need, refuses-bind}
-use Rattle.reading.proofs.entries.Laws.{one-refuses, order-refuses}
+use Rattle.reading.proofs.Entries.{one-refuses, order-refuses}
 use Rattle.gtc.specs.declared.entry.Entry.{Entry}
 use Rattle.gtc.specs.declared.item.Shape.{Shape}
 use Rattle.gtc.specs.declared.item.Shape.the-variants.{Text, Array, SnpArray, Scanner, Block}

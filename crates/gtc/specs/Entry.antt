@@ -1,5 +1,4 @@
 -- GTC: an entry of the table of contents, and the one entry with an id.
--- Assumes nothing.
 use Prim.Native.Nat.{ℕ, _+_, _*_}
 use mathlib.Core.List.{List}
 use mathlib.Core.Bool.{Bool}

@@ -1,5 +1,4 @@
 -- GTC: lookup of an id.
--- Assumes nothing.
 use Prim.Native.Nat.{ℕ}
 use mathlib.Core.List.{List}
 use mathlib.Core.Bool.{false}

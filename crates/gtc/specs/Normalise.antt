@@ -1,6 +1,5 @@
 -- GTC: normalising two intensities, by document 003's formulas in their order, each operation rounded once to 32 bits. The logic has one NaN, so a NaN result is
 -- some NaN.
--- Assumes nothing.
 use Prim.Native.Nat.{ℕ}
 use lib.IntN.{pos}
 use lib.Ieee.{Float, binary32, add, sub, mul, div, neg, ofInt}

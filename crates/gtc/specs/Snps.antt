@@ -1,5 +1,4 @@
 -- GTC: the SNPs from number `first` on, many at once.
--- Assumes nothing.
 use Prim.Native.Nat.{ℕ, zero, suc, _+_, _-_}
 use mathlib.Core.List.{List, [], _∷_}
 use Rattle.reading.specs.Choice.{isNumberOf}

@@ -1,5 +1,4 @@
 -- GTC: the checks of the header and the table of contents, in document 01's order.
--- Assumes nothing.
 use Prim.Native.Nat.{ℕ, _+_, _*_}
 use mathlib.Core.List.{List}
 use Rattle.reading.specs.Number.{le}

@@ -1,5 +1,4 @@
 -- GTC: the normalization transformations.
--- Assumes nothing.
 use Prim.Native.Nat.{ℕ, _+_, _-_, _*_}
 use mathlib.Core.List.{List}
 use lib.Ieee.{Float, binary32, ofBits}

@@ -14,7 +14,7 @@ ghost use Prim.Native.Nat.{ℕ, _+_, _*_, _≤_, _<_};
 ghost use lib.ListN.{length};
 ghost use Rattle.reading.specs.declared.check.Rule.the-variants.{AtLeast, EqualTo};
 ghost use Rattle.reading.specs.Check.{passed, run, must};
-ghost use Rattle.reading.specs.Explain.{tested};
+ghost use Rattle.reading.specs.Answers.{outcomeOfTested};
 ghost use Rattle.gtc.specs.Table.{tableEnd};
 ghost use Rattle.gtc.specs.Entry.{offsetField};
 ghost use Rattle.gtc.specs.declared.item.Shape.the-variants.{Text, Array, SnpArray, Scanner, Block};
@@ -210,7 +210,7 @@ fn elements_of(s: &[u8], w: u8, d: Entry, n: u32) -> Item
 
 // The count of an array equals the number of SNPs.
 fn count_tests(p: usize, n: u32, snps: u32) -> Tested
-    ensures { λ r. ⌜ ((l : List ℕ) → tested r ≡ run (must (countField p n) (EqualTo snps) 9) l) ⌝ }
+    ensures { λ r. ⌜ ((l : List ℕ) → outcomeOfTested r ≡ run (must (countField p n) (EqualTo snps) 9) l) ⌝ }
 {
     let field = Field {
         place: p,
@@ -238,7 +238,7 @@ fn count_tests(p: usize, n: u32, snps: u32) -> Tested
 // The count of the array at place p, in the table h of n entries, is the value of id 1.
 fn snp_tests(h: &[u8], n: usize, p: usize, m: u32) -> Tested
     requires { ⌜ tableEnd n ≤ length (now h) ⌝ }
-    ensures { λ r. ⌜ ((l : List ℕ) → tested r ≡ run (snpCheck (now (h .entry)) n p m) l) ⌝ }
+    ensures { λ r. ⌜ ((l : List ℕ) → outcomeOfTested r ≡ run (snpCheck (now (h .entry)) n p m) l) ⌝ }
 {
     match entry_with(h, n, 1) {
         EntryFound::Bad(t) => Tested::Failed(t),
@@ -339,7 +339,7 @@ fn shape_tests(s: &[u8], h: &[u8], n: usize, k: Shape, d: Entry) -> Item
 // The offset is not negative and not below the end of a table of n entries.
 fn offset_tests(n: usize, d: Entry) -> Tested
     requires { ⌜ (tableEnd n < 0x8000000000000000) × (d .place < 0x8000000000000000) ⌝ }
-    ensures { λ r. ⌜ ((l : List ℕ) → tested r ≡ run (must (offsetField d) (AtLeast (tableEnd n)) 6) l) ⌝ }
+    ensures { λ r. ⌜ ((l : List ℕ) → outcomeOfTested r ≡ run (must (offsetField d) (AtLeast (tableEnd n)) 6) l) ⌝ }
 {
     let field = Field {
         place: d.place + 2,

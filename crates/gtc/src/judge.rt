@@ -14,8 +14,8 @@ use reading::check::Explanation;
 use reading::check::Field;
 use reading::check::Rule;
 use reading::check::Test;
-use reading::entries::larger;
 use reading::number::le16;
+use reading::order::larger;
 ghost use mathlib.Core.Path.{_≡_};
 ghost use Prim.Native.Nat.{_+_, _≤_, _<_};
 ghost use lib.ListN.{length};
@@ -23,7 +23,7 @@ ghost use Rattle.reading.specs.Choice.{pick};
 ghost use Rattle.reading.specs.Number.{le};
 ghost use Rattle.reading.specs.Check.{run, answer};
 ghost use Rattle.reading.specs.Entries.{inOrder};
-ghost use Rattle.reading.specs.Explain.{explained};
+ghost use Rattle.reading.specs.Explain.{explanationOf};
 ghost use Rattle.gtc.specs.Table.{tableEnd};
 ghost use Rattle.gtc.specs.Entry.{entryPlace};
 ghost use Rattle.gtc.specs.declared.item.Listing.the-variants.{Listed};
@@ -91,7 +91,7 @@ fn judge_entry(s: &[u8], h: &[u8], n: usize, i: usize) -> Judged
 // Why an entry is refused, or the extent.
 fn explain_entries(s: &[u8], h: &[u8], n: usize) -> Explanation
     requires { ⌜ tableEnd n ≤ length (now h) ⌝ }
-    ensures { λ r. ⌜ r ≡ explained (run (inOrder (judgeEntry (now (h .entry)) n) n 0 (tableEnd n)) (now (s .entry))) ⌝ }
+    ensures { λ r. ⌜ r ≡ explanationOf (run (inOrder (judgeEntry (now (h .entry)) n) n 0 (tableEnd n)) (now (s .entry))) ⌝ }
 {
     let mut x = 8 + 6 * n;
     let mut i = 0;

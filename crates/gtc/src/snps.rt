@@ -8,9 +8,9 @@ use crate::snp::SnpRead;
 use crate::snp::elements;
 use crate::snp::snp_arrays;
 use crate::snp::snp_at;
-use reading::bulk::Listed;
+use reading::bulk::Copied;
 use reading::bulk::put_four;
-use reading::bulk::smaller;
+use reading::order::smaller;
 ghost use mathlib.Core.Path.{_≡_};
 ghost use mathlib.Core.List.{_++_};
 ghost use Prim.Native.Nat.{_+_, _*_, _≤_};
@@ -18,7 +18,8 @@ ghost use lib.ListN.{length, drop};
 ghost use lib.Seq.{sets};
 ghost use Rattle.reading.specs.Check.{ok, refused, answer, mapAnswer};
 ghost use Rattle.reading.specs.Lent.{filled};
-ghost use Rattle.reading.specs.Bulk.{recordOf, records, listed};
+ghost use Rattle.reading.specs.Bulk.{recordOf, records};
+ghost use Rattle.reading.specs.Answers.{answerOfCopied};
 ghost use Rattle.gtc.specs.Snp.{Present, Sized, Elements, snpRead};
 ghost use Rattle.gtc.specs.Snps.{snpsAt, snpNumbers, snpsOf, snpsReading};
 
@@ -82,21 +83,21 @@ fn put_snps(g: &[u8], b: &[u8], f: &[u8], x: &[u8], y: &[u8], j: usize, n: usize
     }
 }
 
-fn snps_of(s: &[u8], a: SnpArrays, first: u64, out: &mut [u64]) -> Listed
+fn snps_of(s: &[u8], a: SnpArrays, first: u64, out: &mut [u64]) -> Copied
     requires { ⌜ Present (now s) a × Sized a ⌝ }
-    ensures { λ r. ⌜ listed r ≡ mapAnswer length (answer (snpsOf a first (length (now (out .entry)))) (now (s .entry))) ⌝ }
+    ensures { λ r. ⌜ answerOfCopied r ≡ mapAnswer length (answer (snpsOf a first (length (now (out .entry)))) (now (s .entry))) ⌝ }
     ensures { λ _. ⌜ now (out .exit) ≡ filled (mapAnswer (records 9 snpNumbers) (answer (snpsOf a first (length (now (out .entry)))) (now (s .entry)))) (now (out .entry)) ⌝ }
 {
     let count = a.genotypes.count as u64;
     if first < 1 {
-        return Listed::Refused(12);
+        return Copied::Refused(12);
     }
     if count < first {
-        return Listed::Refused(12);
+        return Copied::Refused(12);
     }
     let room = out.len();
     if room < 9 {
-        return Listed::Refused(13);
+        return Copied::Refused(13);
     }
     let j = (first - 1) as usize;
     let n = smaller((count - (first - 1)) as usize, room / 9);
@@ -106,17 +107,17 @@ fn snps_of(s: &[u8], a: SnpArrays, first: u64, out: &mut [u64]) -> Listed
     let x = elements(s, a.x);
     let y = elements(s, a.y);
     put_snps(g, b, f, x, y, j, n, out);
-    Listed::Count(n as u64)
+    Copied::Count(n as u64)
 }
 
 // The records of the SNPs from number `first` on, as many as are left and as fit, at the output's front: nine numbers for each, the refusal's
 // and those of `Snp`.
-pub fn read_snps(s: &[u8], first: u64, out: &mut [u64]) -> Listed
-    ensures { λ r. ⌜ listed r ≡ mapAnswer length (answer (snpsReading first (length (now (out .entry)))) (now (s .entry))) ⌝ }
+pub fn read_snps(s: &[u8], first: u64, out: &mut [u64]) -> Copied
+    ensures { λ r. ⌜ answerOfCopied r ≡ mapAnswer length (answer (snpsReading first (length (now (out .entry)))) (now (s .entry))) ⌝ }
     ensures { λ _. ⌜ now (out .exit) ≡ filled (mapAnswer (records 9 snpNumbers) (answer (snpsReading first (length (now (out .entry)))) (now (s .entry)))) (now (out .entry)) ⌝ }
 {
     match snp_arrays(s) {
-        ArraysFound::Refused(n) => Listed::Refused(n),
+        ArraysFound::Refused(n) => Copied::Refused(n),
         ArraysFound::At(a) => snps_of(s, a, first, out),
     }
 }

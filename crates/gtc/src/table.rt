@@ -11,7 +11,7 @@ ghost use mathlib.Core.List.{List};
 ghost use Prim.Native.Nat.{ℕ};
 ghost use Rattle.reading.specs.Number.{le};
 ghost use Rattle.reading.specs.Check.{run};
-ghost use Rattle.reading.specs.Explain.{tested};
+ghost use Rattle.reading.specs.Answers.{outcomeOfTested};
 ghost use Rattle.gtc.specs.Table.{markCheck, countCheck, entryCount, read};
 
 // The number of entries; or the first test that fails, or the bytes that are missing, by their start and end.
@@ -22,7 +22,7 @@ pub(crate) enum TableRead {
 }
 
 fn mark_tests(mark: u32, version: u8) -> Tested
-    ensures { λ r. ⌜ ((l : List ℕ) → tested r ≡ run (markCheck mark version) l) ⌝ }
+    ensures { λ r. ⌜ ((l : List ℕ) → outcomeOfTested r ≡ run (markCheck mark version) l) ⌝ }
 {
     let first = Field {
         place: 0,
@@ -54,7 +54,7 @@ fn mark_tests(mark: u32, version: u8) -> Tested
 }
 
 fn count_tests(count: u32) -> Tested
-    ensures { λ r. ⌜ ((l : List ℕ) → tested r ≡ run (countCheck count) l) ⌝ }
+    ensures { λ r. ⌜ ((l : List ℕ) → outcomeOfTested r ≡ run (countCheck count) l) ⌝ }
 {
     let field = Field {
         place: 4,

@@ -1,5 +1,4 @@
 -- What the input is: too long, or told by the mark at its front.
--- Assumes nothing.
 use Prim.Native.Nat.{ℕ}
 use mathlib.Core.List.{List}
 use lib.Dec.{leb, eqb}

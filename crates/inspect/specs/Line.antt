@@ -1,5 +1,4 @@
 -- What the lines show of a byte and of a name.
--- Assumes nothing.
 use Prim.Native.Nat.{ℕ, _/_, _%_}
 use mathlib.Core.List.{List, [], _∷_}
 use lib.Dec.{leb}

@@ -1,5 +1,4 @@
 -- Demands 1 and 3 for ABIF, the records of a list, and the calls of an opened file.
--- Assumes nothing.
 use Prim.Native.Nat.{ℕ, _+_, _≤_}
 use mathlib.Core.Path.{_≡_, refl}
 use mathlib.Core.Bool.{true}
@@ -7,7 +6,8 @@ use mathlib.Core.List.{List}
 use native.Mathlib.Omega.{arith}
 use lib.ListN.{length}
 use Rattle.reading.specs.Choice.{isNumberOf}
-use Rattle.reading.specs.Check.{ok, answer, reach}
+use Rattle.reading.specs.Check.{ok, answer}
+use Rattle.reading.proofs.Needed.{reach}
 use Rattle.reading.specs.Part.{Part}
 use Rattle.reading.proofs.Refused.{Refuses}
 use Rattle.abif.specs.Judge.{judging}

@@ -1,5 +1,4 @@
 -- The round trip of ABIF.
--- Assumes nothing.
 use Prim.Native.Nat.{ℕ}
 use mathlib.Core.Path.{subst}
 use mathlib.Core.List.{List}

@@ -1,5 +1,4 @@
 -- Demand 1, whole.
--- Assumes nothing.
 use Rattle.reading.specs.Part.{Part}
 use Rattle.promises.specs.Formats.{Name, ABIF, SFF, GTC, formatOf}
 use Rattle.promises.specs.Demand1.{Ends, Demand1}

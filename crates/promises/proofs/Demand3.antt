@@ -1,5 +1,4 @@
 -- Demand 3, whole.
--- Assumes nothing.
 use Rattle.promises.specs.Formats.{ABIF, SFF, GTC}
 use Rattle.promises.specs.Demand3.{Demand3}
 use Rattle.promises.proofs.Abif.{abif-holds}

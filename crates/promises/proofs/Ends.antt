@@ -1,5 +1,4 @@
 -- Demand 1 for a format, from what holds of every refusal of its calls.
--- Assumes nothing.
 use Prim.Native.Nat.{ℕ, zero, suc, _≤_}
 use mathlib.Core.Path.{_≡_, refl, sym, ap, subst}
 use mathlib.Core.Bool.{Bool, true, false}

@@ -1,11 +1,11 @@
 -- Demands 1 and 3 for GTC.
--- Assumes nothing.
 use Prim.Native.Nat.{ℕ, _+_, _≤_}
 use mathlib.Core.Path.{_≡_, refl}
 use mathlib.Core.List.{List}
 use native.Mathlib.Omega.{arith}
 use lib.ListN.{length}
-use Rattle.reading.specs.Check.{ok, answer, reach}
+use Rattle.reading.specs.Check.{ok, answer}
+use Rattle.reading.proofs.Needed.{reach}
 use Rattle.reading.specs.Part.{Part}
 use Rattle.reading.proofs.Refused.{Refuses}
 use Rattle.gtc.specs.Judge.{Extent, judging}

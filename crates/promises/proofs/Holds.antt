@@ -1,16 +1,15 @@
 -- Demand 3 for a format, from what its calls need.
--- Assumes nothing.
 use Prim.Native.Nat.{ℕ, _+_, _≤_, _<_, min}
 use mathlib.Core.Path.{_≡_, refl, sym, _∙_, ap, subst}
 use mathlib.Core.Logic.{_⊎_, inl, inr}
 use mathlib.Core.List.{List}
 use native.Mathlib.Omega.{arith}
 use lib.ListN.{length, take, length-take}
-use Rattle.reading.specs.Check.{Answer, ok, refused, mapAnswer, answer, reach}
-use Rattle.reading.specs.Demand.{Refused1, refused1}
+use Rattle.reading.specs.Check.{Answer, ok, refused, mapAnswer, answer}
+use Rattle.reading.proofs.Needed.{reach}
 use Rattle.reading.specs.Part.{Part, cutTo, Span, handedBack}
 use Rattle.reading.specs.Lent.{filled}
-use Rattle.reading.proofs.Cut.{answer-same, cuts, steady}
+use Rattle.reading.proofs.Cut.{Refused1, refused1, answer-same, cuts, cut-or-same}
 use Rattle.reading.proofs.Parts.{handed-kept}
 use Rattle.promises.specs.Format.{Format}
 use Rattle.promises.specs.Seen.{Seen, seen}
@@ -45,7 +44,7 @@ module _ (f : Format) (k : Needs f) where
   pub holds : Holds f
   holds =
       record {
-        cut = λ c file n. either c file n (steady (f .checks c) (file .bytes) n);
+        cut = λ c file n. either c file n (cut-or-same (f .checks c) (file .bytes) n);
         within = λ file v w. subst (λ (x : ℕ). x ≤ length (file .bytes)) (k .extent (file .bytes) v w) (cuts (f .checks (f .judging)) (file .bytes) v w .within);
         below = λ file v w n h. short (f .judging) (cutTo n file) _ (cuts (f .checks (f .judging)) (file .bytes) v w .cut n (subst (λ (x : ℕ). n < x) (sym (k .extent (file .bytes) v w)) h)) refl;
         from = λ file v w n h c. seen-same c file n (answer-same (f .checks c) n (file .bytes) (omega (arith, k .under c (file .bytes) v w)));

@@ -1,5 +1,4 @@
 -- The bench samples, computed from the definitions.
--- Assumes nothing.
 use mathlib.Core.Path.{refl}
 use Rattle.reading.specs.Number.{be, le, signed}
 use Rattle.reading.specs.Check.{answer}

@@ -1,5 +1,4 @@
 -- The reading calls of ABIF, and what the calls of an opened file answer.
--- Assumes nothing.
 use Prim.Native.Nat.{ℕ, suc}
 use mathlib.Core.Path.{_≡_}
 use mathlib.Core.List.{List, [], _∷_}

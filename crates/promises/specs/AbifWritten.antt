@@ -1,5 +1,4 @@
 -- The round trip of ABIF: a file that was written reads back as the items that were given, none lost and none added.
--- Assumes nothing.
 use Prim.Native.Nat.{ℕ, _-_, _*_, _^_, _<_}
 use mathlib.Core.Path.{_≡_}
 use mathlib.Core.List.{List, []}

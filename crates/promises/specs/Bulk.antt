@@ -1,6 +1,5 @@
 -- The rule of bulk calls, one for all: they write as many items as are left and as fit; 13 only where not one fits; and item j is what the single call answers for
 -- number first + j, the refusal of its own contents included.
--- Assumes nothing.
 use Prim.Native.Nat.{ℕ, zero, suc, _+_, _*_, _≤_, _<_}
 use mathlib.Core.Path.{_≡_}
 use mathlib.Core.Logic.{_⊎_}

@@ -1,6 +1,5 @@
 -- Demand 1: every call ends with an answer or with one refusal of document 01's table, and a refused call changes nothing that it was lent. No call asks anything of
 -- its caller, and that each ends is part of its proof; so what is left to say is what is seen then.
--- Assumes nothing.
 use Prim.Native.Nat.{ℕ}
 use mathlib.Core.Path.{_≡_}
 use mathlib.Core.Bool.{true}

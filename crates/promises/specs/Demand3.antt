@@ -1,6 +1,5 @@
 -- Demand 3, whole: cutting a file never changes an answer except to refusal 1, and a whole file stays whole down to its extent. It speaks of every reading call of every
 -- format.
--- Assumes nothing.
 use Prim.Native.Nat.{ℕ, _≤_, _<_}
 use mathlib.Core.Path.{_≡_}
 use mathlib.Core.Logic.{_⊎_}

@@ -1,5 +1,4 @@
 -- The reading calls of a format, as demands 1 and 3 speak of them.
--- Assumes nothing.
 use Prim.Native.Nat.{ℕ}
 use mathlib.Core.List.{List}
 use Rattle.reading.specs.Check.{Check}

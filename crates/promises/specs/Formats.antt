@@ -1,5 +1,4 @@
 -- The formats, each with all its reading calls: `Call` in Abif, Sff and Gtc lists them.
--- Assumes nothing.
 use Rattle.promises.specs.Format.{Format}
 use Rattle.promises.specs.Abif.{abif}
 use Rattle.promises.specs.Sff.{sff}

@@ -1,5 +1,4 @@
 -- The reading calls of GTC.
--- Assumes nothing.
 use Prim.Native.Nat.{ℕ}
 use mathlib.Core.List.{List, []}
 use lib.ListN.{length}

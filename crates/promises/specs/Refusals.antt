@@ -1,5 +1,4 @@
 -- Document 01's table of refusals.
--- Assumes nothing.
 use Prim.Native.Nat.{ℕ}
 use mathlib.Core.List.{List, [], _∷_}
 

@@ -1,5 +1,4 @@
 -- The bench samples of document 01: one table, each row a file, a call on it, and the answer.
--- Assumes nothing.
 use Prim.Native.Nat.{ℕ}
 use mathlib.Core.Path.{_≡_}
 use mathlib.Core.List.{List, [], _∷_, _++_}

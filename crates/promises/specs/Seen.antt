@@ -1,5 +1,4 @@
 -- All that a caller sees of a reading call.
--- Assumes nothing.
 use Prim.Native.Nat.{ℕ}
 use mathlib.Core.List.{List}
 use Rattle.reading.specs.Check.{Answer, refused, mapAnswer, answer}

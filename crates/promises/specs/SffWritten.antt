@@ -1,5 +1,4 @@
 -- What the SFF writer has written reads back as what was given: every read, none lost, none added, none changed.
--- Assumes nothing.
 use Prim.Native.Nat.{ℕ, zero, suc, _+_, _*_, _<_}
 use mathlib.Core.Path.{_≡_}
 use mathlib.Core.List.{List, []}

@@ -1,5 +1,4 @@
 -- The calls of the writers, with all that they are lent. They are lent no file, so each is run on no bytes.
--- Assumes nothing.
 use Prim.Native.Nat.{ℕ}
 use mathlib.Core.List.{List, []}
 use lib.IntN.{ℤ}

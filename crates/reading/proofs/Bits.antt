@@ -1,5 +1,4 @@
 -- The bits of a signed number, at any width: what the casts of the code ask and give.
--- Assumes nothing.
 use Prim.Native.Nat.{ℕ, suc, _-_, _*_, _<_, _≤_, _^_}
 use mathlib.Core.Path.{_≡_, refl, sym, _∙_, ap}
 use mathlib.Core.Bool.{true, false}

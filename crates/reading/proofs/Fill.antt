@@ -1,6 +1,5 @@
 -- A loop that fills a lent list from its front: what is written, what is left to write, and what stays are the whole.
 -- W m is what m items left would write from the present state.
--- Assumes nothing.
 use Prim.Native.Nat.{ℕ, zero, suc, _+_, _-_, _≤_, _<_}
 use mathlib.Core.Path.{_≡_, refl, sym, _∙_, ap, subst}
 use mathlib.Core.List.{List, [], _∷_, _++_, append-assoc}

@@ -1,5 +1,4 @@
 -- Bits of a NaN and of another float, at both formats: `ones` is the largest exponent field, and only a NaN has other digits there.
--- Assumes nothing.
 use mathlib.Core.Path.{_≡_, refl, sym, subst}
 use mathlib.Core.Bool.{Bool, true, false, not, _&&_}
 use Prim.Native.Nat.{ℕ, _%_, _/_}

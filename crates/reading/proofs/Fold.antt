@@ -1,5 +1,4 @@
 -- What is said of n bytes, one after the other, is the same wherever these bytes stand.
--- Assumes nothing.
 use Prim.Native.Nat.{ℕ, zero, suc, _+_, _≤_, _<_}
 use mathlib.Core.Path.{_≡_, sym, _∙_, ap}
 use mathlib.Core.List.{List}

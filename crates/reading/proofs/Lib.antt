@@ -1,3 +1,4 @@
+pub mod Needed
 pub mod Cut
 pub mod Steps
 pub mod Passed
@@ -16,3 +17,4 @@ pub mod Floats
 pub mod Tests
 pub mod Match
 pub mod Width
+pub mod Entries

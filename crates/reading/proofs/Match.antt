@@ -1,5 +1,4 @@
 -- What the arms of a match on a number leave, as facts about lists of numbers.
--- Assumes nothing.
 use Prim.Native.Nat.{ℕ}
 use mathlib.Core.Path.{_≡_, refl, sym, subst}
 use mathlib.Core.Logic.{inl, inr}

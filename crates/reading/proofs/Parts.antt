@@ -1,5 +1,4 @@
 -- A part that lies within a beginning of the bytes is the same part of them: the same place, the same bytes.
--- Assumes nothing.
 use Prim.Native.Nat.{ℕ, zero, suc, _+_, _≤_}
 use mathlib.Core.Path.{_≡_, refl, ap}
 use mathlib.Core.List.{List, [], _∷_}

@@ -1,5 +1,4 @@
 -- What holds of every refusal of a call, its number and its entry, from what holds of those of its parts.
--- Assumes nothing.
 use Prim.Native.Nat.{ℕ}
 use mathlib.Core.Path.{_≡_, refl, sym, _∙_, subst}
 use mathlib.Core.List.{List}

@@ -1,5 +1,4 @@
 -- Numbers of w bytes, big-endian and little-endian alike: the laws are of `number`, over the width.
--- Assumes nothing.
 use Prim.Native.Nat.{ℕ, zero, suc, _+_, _-_, _*_, _/_, _%_, _^_, _<_, _≤_}
 use mathlib.Core.Path.{_≡_, refl, sym, _∙_, ap}
 use mathlib.Core.List.{List}

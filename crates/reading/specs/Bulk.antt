@@ -1,12 +1,9 @@
 -- Bulk calls, which write many items into a lent list of numbers: as many as are left and as fit.
--- Assumes nothing.
 use Prim.Native.Nat.{ℕ, _+_, _-_, _/_, min}
 use mathlib.Core.List.{List, [], _∷_, _++_}
 use lib.ListN.{length, replicate}
 use lib.Seq.{sets}
 use lib.Dec.{leb}
-use Rattle.reading.specs.declared.bulk.Listed.{Listed}
-use Rattle.reading.specs.declared.bulk.Listed.the-variants.{Count, Refused}
 use Rattle.reading.specs.Choice.{pick}
 use Rattle.reading.specs.Check.{Check, Answer, ok, refused, provided}
 
@@ -41,8 +38,3 @@ pub data OfItem {A : Type 0} : Answer A → Type 0 where
 -- the numbers of l from place p on, where there is room for them
 abbrev pub placed : List ℕ → ℕ → List ℕ → List ℕ
 placed out p l = pick (leb (p + length l) (length out)) (sets out p l) out
-
--- the answer of document 01 that each case stands for
-abbrev pub listed : Listed → Answer ℕ
-listed (Count n) = ok n
-listed (Refused n) = refused n 0

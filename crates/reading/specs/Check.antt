@@ -1,6 +1,5 @@
 -- A reading call as a tree of checks, in document 01's order. A check is its own explanation: the field, what is required of it, and the refusal.
--- Assumes nothing.
-use Prim.Native.Nat.{ℕ, max}
+use Prim.Native.Nat.{ℕ}
 use mathlib.Core.List.{List}
 use mathlib.Core.Bool.{Bool, true, false}
 use lib.ListN.{length, take}
@@ -20,8 +19,8 @@ abbrev pub unsignedField : ℕ → ℕ → ℕ → Field
 unsignedField w p v = record { place = p; width = w; sign = false; value = v }
 
 -- what stands in a field
-abbrev pub stood : Field → ℤ
-stood f = pick (f .sign) (signed (f .width) (f .value)) (pos (f .value))
+abbrev pub fieldValue : Field → ℤ
+fieldValue f = pick (f .sign) (signed (f .width) (f .value)) (pos (f .value))
 
 abbrev pub isNegative : Field → Bool
 isNegative f = pick (f .sign) (negative (f .width) (f .value)) false
@@ -102,29 +101,27 @@ abbrev pub mapAnswer : {A B : Type 0} → (A → B) → Answer A → Answer B
 mapAnswer f (ok a) = ok (f a)
 mapAnswer f (refused n e) = refused n e
 
-abbrev pub plain : {A : Type 0} → Outcome A → Answer A
-plain (passed a) = ok a
-plain (failed w e) = refused (w .number) e
-plain (short m e) = refused 1 e
+-- the answer by the number of what the checks find
+abbrev pub answerOfOutcome : {A : Type 0} → Outcome A → Answer A
+answerOfOutcome (passed a) = ok a
+answerOfOutcome (failed w e) = refused (w .number) e
+answerOfOutcome (short m e) = refused 1 e
+
+-- the checks made of a file in their order: f of the value, or g of the first test that fails, or h of the first bytes that are not there
+module _ {A B : Type 0} (f : A → B) (g : Test → ℕ → B) (h : Need → ℕ → B) where
+  unfoldable pub check : Check A → List ℕ → B
+  unfolding _>>=_ must need at passes holds
+  check (done a) s = f a
+  check (test w e t) s = pick (passes w) (check t s) (g w e)
+  check (bytes m e k) s = pick (leb (m .end) (length s)) (check (k (take (m .end) s)) s) (h m e)
 
 module _ {A : Type 0} where
   -- the first check that does not hold of the file
   unfoldable pub run : Check A → List ℕ → Outcome A
-  unfolding _>>=_ must need at passes holds
-  run (done a) s = passed a
-  run (test w e t) s = pick (passes w) (run t s) (failed w e)
-  run (bytes m e k) s = pick (leb (m .end) (length s)) (run (k (take (m .end) s)) s) (short m e)
+  unfolding check _>>=_ must need at passes holds
+  run t s = check passed failed short t s
 
-  -- what the call answers: the same, told by its number
+  -- what the call answers: the same, by its number
   unfoldable pub answer : Check A → List ℕ → Answer A
-  unfolding _>>=_ must need at passes holds
-  answer (done a) s = ok a
-  answer (test w e t) s = pick (passes w) (answer t s) (refused (w .number) e)
-  answer (bytes m e k) s = pick (leb (m .end) (length s)) (answer (k (take (m .end) s)) s) (refused 1 e)
-
-  -- the number of bytes that the checks made on the way to the answer need
-  unfoldable pub reach : Check A → List ℕ → ℕ
-  unfolding _>>=_ must need at passes holds
-  reach (done a) s = 0
-  reach (test w e t) s = pick (passes w) (reach t s) 0
-  reach (bytes m e k) s = pick (leb (m .end) (length s)) (max (m .end) (reach (k (take (m .end) s)) s)) (m .end)
+  unfolding check _>>=_ must need at passes holds
+  answer t s = check ok (λ w e. refused (w .number) e) (λ m e. refused 1 e) t s

@@ -1,5 +1,4 @@
 -- The entries of a directory or of a table of contents, by their numbers, counted from 0: the one that passes a test, and the checks of all in order.
--- Assumes nothing.
 use Prim.Native.Nat.{ℕ, zero, suc, _+_, _-_, max}
 use mathlib.Core.Bool.{Bool}
 use lib.Dec.{ltb, eqb}

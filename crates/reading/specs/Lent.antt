@@ -1,5 +1,4 @@
 -- What a list that a call is lent holds after it.
--- Assumes nothing.
 use mathlib.Core.List.{List, _++_}
 use lib.ListN.{length, drop}
 use Rattle.reading.specs.Check.{Answer, ok, refused}

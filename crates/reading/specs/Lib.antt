@@ -3,7 +3,8 @@ pub mod Number
 pub mod Check
 pub mod Entries
 pub mod Explain
-pub mod Demand
 pub mod Part
+pub mod Item
 pub mod Lent
 pub mod Bulk
+pub mod Answers

@@ -1,23 +1,12 @@
 // What the bulk calls share, which write many items into a lent list of numbers.
 ghost use mathlib.Core.Path.{_≡_};
 ghost use mathlib.Core.List.{[], _∷_};
-ghost use Prim.Native.Nat.{min};
 ghost use Rattle.reading.specs.Bulk.{placed};
 
 // How many items were written, or the refusal.
-pub enum Listed {
+pub enum Copied {
     Count(u64),
     Refused(u8),
-}
-
-// The smaller of two counts.
-pub fn smaller(a: usize, b: usize) -> usize
-    ensures { λ r. ⌜ r ≡ min a b ⌝ }
-{
-    if b < a {
-        return b;
-    }
-    a
 }
 
 // Four numbers from place p on, where there is room for them.

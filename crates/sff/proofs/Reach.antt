@@ -1,12 +1,12 @@
 -- What the reading calls of SFF need: judging just the extent that it answers, and no other call more.
--- Assumes nothing.
 use Prim.Native.Nat.{ℕ, _+_, _-_, _≤_, _<_, max, min}
 use mathlib.Core.Path.{_≡_, sym, _∙_, ap, subst}
 use mathlib.Core.List.{List}
 use native.Mathlib.Omega.{arith}
 use lib.ListN.{length, take, length-take}
 use Rattle.reading.specs.Bulk.{leftFrom, fitting}
-use Rattle.reading.specs.Check.{Check, ok, answer, reach, holds, _>>=_, _>>_}
+use Rattle.reading.specs.Check.{Check, ok, answer, holds, _>>=_, _>>_}
+use Rattle.reading.proofs.Needed.{reach}
 use Rattle.reading.proofs.Cut.{answer-same}
 use Rattle.reading.proofs.Steps.{reach-done, reach-must, reach-need, reach-at}
 use Rattle.reading.proofs.Passed.{bind-ok, done-ok, must-ok, at-ok, ok-inj}

@@ -1,5 +1,4 @@
 -- The refusals of SFF's reading calls. P is what holds of these, their numbers and their reads.
--- Assumes nothing.
 use Prim.Native.Nat.{ℕ, zero, suc, _+_, _-_}
 use mathlib.Core.Path.{_≡_}
 use mathlib.Core.Bool.{false}

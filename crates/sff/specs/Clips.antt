@@ -1,5 +1,4 @@
 -- SFF: the clips of a read, and its insert.
--- Assumes nothing.
 use Prim.Native.Nat.{ℕ, _+_, _-_, max, min}
 use lib.Dec.{leb, eqb}
 use Rattle.reading.specs.Choice.{pick}

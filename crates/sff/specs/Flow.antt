@@ -1,5 +1,4 @@
 -- SFF: the flow of a base.
--- Assumes nothing.
 use Prim.Native.Nat.{ℕ, _+_}
 use Rattle.reading.specs.Choice.{isNumberOf}
 use Rattle.reading.specs.Check.{Check, Answer, ok, refused, done, need, provided, _>>=_, _>>_}

@@ -1,5 +1,4 @@
 -- SFF: the checks of the common header, in document 01's order.
--- Assumes nothing.
 use Prim.Native.Nat.{ℕ, _+_}
 use mathlib.Core.List.{List}
 use mathlib.Core.Bool.{Bool, not}

@@ -1,5 +1,4 @@
 -- SFF: judging.
--- Assumes nothing.
 use Prim.Native.Nat.{ℕ}
 use mathlib.Core.Bool.{Bool, true}
 use lib.Dec.{eqb}

@@ -1,5 +1,4 @@
 -- SFF: read k.
--- Assumes nothing.
 use Prim.Native.Nat.{ℕ, _+_, _*_}
 use mathlib.Core.List.{List}
 use Rattle.reading.specs.Check.{Check, Answer, ok, refused, done, _>>=_, _>>_}

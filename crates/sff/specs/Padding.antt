@@ -1,5 +1,4 @@
 -- SFF: lengths rounded up to a multiple of 8.
--- Assumes nothing.
 use Prim.Native.Nat.{ℕ, _+_, _-_, _%_}
 
 -- how many bytes stand between n bytes and the next multiple of 8

@@ -1,5 +1,4 @@
 -- SFF: a read's header, and the checks of where a read ends, in document 01's order.
--- Assumes nothing.
 use Prim.Native.Nat.{ℕ, _+_, _*_}
 use mathlib.Core.List.{List}
 use Rattle.reading.specs.Number.{be}

@@ -1,5 +1,4 @@
 -- SFF: the reads from number `first` on, many at once.
--- Assumes nothing.
 use Prim.Native.Nat.{ℕ, _+_, _-_}
 use mathlib.Core.List.{List, [], _∷_}
 use lib.ListN.{drop}

@@ -1,5 +1,4 @@
 -- SFF: the walk over the reads, which judging and every call for a read share.
--- Assumes nothing.
 use Prim.Native.Nat.{ℕ, zero, suc, _+_, _-_}
 use mathlib.Core.List.{List, [], _∷_}
 use mathlib.Core.Bool.{true, false}

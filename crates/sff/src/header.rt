@@ -11,7 +11,7 @@ ghost use mathlib.Core.Path.{_≡_};
 ghost use mathlib.Core.List.{List};
 ghost use Prim.Native.Nat.{ℕ};
 ghost use Rattle.reading.specs.Check.{run, answer};
-ghost use Rattle.reading.specs.Explain.{tested};
+ghost use Rattle.reading.specs.Answers.{outcomeOfTested};
 ghost use Rattle.sff.specs.Header.{headerOf, markCheck, lengthCheck, indexCheck, header, read, opened};
 
 // The fields of the common header; the flow letters start at 31, and the key behind them.
@@ -54,7 +54,7 @@ fn header_of(h: &[u8]) -> Header
 }
 
 fn index_tests(d: Header) -> Tested
-    ensures { λ r. ⌜ ((l : List ℕ) → tested r ≡ run (indexCheck d) l) ⌝ }
+    ensures { λ r. ⌜ ((l : List ℕ) → outcomeOfTested r ≡ run (indexCheck d) l) ⌝ }
 {
     let offset = Field {
         place: 8,
@@ -83,7 +83,7 @@ fn index_tests(d: Header) -> Tested
 }
 
 fn mark_tests(mark: u32, version: u32) -> Tested
-    ensures { λ r. ⌜ ((l : List ℕ) → tested r ≡ run (markCheck mark version) l) ⌝ }
+    ensures { λ r. ⌜ ((l : List ℕ) → outcomeOfTested r ≡ run (markCheck mark version) l) ⌝ }
 {
     let first = Field {
         place: 0,
@@ -115,7 +115,7 @@ fn mark_tests(mark: u32, version: u32) -> Tested
 }
 
 fn length_tests(code: u8, d: Header) -> Tested
-    ensures { λ r. ⌜ ((l : List ℕ) → tested r ≡ run (lengthCheck code d) l) ⌝ }
+    ensures { λ r. ⌜ ((l : List ℕ) → outcomeOfTested r ≡ run (lengthCheck code d) l) ⌝ }
 {
     let format = Field {
         place: 30,

@@ -15,7 +15,7 @@ ghost use mathlib.Core.Path.{_≡_};
 ghost use Prim.Native.Nat.{_≤_};
 ghost use lib.ListN.{length};
 ghost use Rattle.reading.specs.Check.{run, answer};
-ghost use Rattle.reading.specs.Explain.{explained};
+ghost use Rattle.reading.specs.Explain.{explanationOf};
 ghost use Rattle.sff.specs.Judge.{ending, judging, judgingReads, verdict};
 
 // What judging finds: the file is whole, with its extent; or the refusal and its read.
@@ -27,7 +27,7 @@ pub enum Verdict {
 // What stands behind the last read.
 fn explain_ending(s: &[u8], d: Header, b: Boundary) -> Explanation
     requires { ⌜ b .position ≤ length (now s) ⌝ }
-    ensures { λ r. ⌜ r ≡ explained (run (ending d b) (now (s .entry))) ⌝ }
+    ensures { λ r. ⌜ r ≡ explanationOf (run (ending d b) (now (s .entry))) ⌝ }
 {
     match skip_index(s, d, b) {
         Skipped::Short(start, least) => Explanation::Short {
@@ -61,7 +61,7 @@ fn explain_ending(s: &[u8], d: Header, b: Boundary) -> Explanation
 
 fn explain_reads(s: &[u8], d: Header) -> Explanation
     requires { ⌜ d .«header_length» ≤ length (now s) ⌝ }
-    ensures { λ r. ⌜ r ≡ explained (run (judgingReads d) (now (s .entry))) ⌝ }
+    ensures { λ r. ⌜ r ≡ explanationOf (run (judgingReads d) (now (s .entry))) ⌝ }
 {
     let front = Boundary {
         position: d.header_length as usize,
@@ -80,7 +80,7 @@ fn explain_reads(s: &[u8], d: Header) -> Explanation
 
 // Why the file is refused, or its extent.
 fn explain(s: &[u8]) -> Explanation
-    ensures { λ r. ⌜ r ≡ explained (run judging (now (s .entry))) ⌝ }
+    ensures { λ r. ⌜ r ≡ explanationOf (run judging (now (s .entry))) ⌝ }
 {
     match read_header(s) {
         HeaderRead::Bad(test) => Explanation::Failed { test, entry: 0 },

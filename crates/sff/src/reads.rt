@@ -10,9 +10,9 @@ use crate::walk::Step;
 use crate::walk::Walked;
 use crate::walk::next_read;
 use crate::walk::walk;
-use reading::bulk::Listed;
+use reading::bulk::Copied;
 use reading::bulk::put_four;
-use reading::bulk::smaller;
+use reading::order::smaller;
 ghost use mathlib.Core.Path.{_≡_};
 ghost use mathlib.Core.List.{_++_};
 ghost use Prim.Native.Nat.{_+_, _-_, _*_, _≤_, _<_};
@@ -20,7 +20,8 @@ ghost use lib.ListN.{length, take, drop};
 ghost use lib.Seq.{sets};
 ghost use Rattle.reading.specs.Check.{passed, ok, refused, run, answer, mapAnswer};
 ghost use Rattle.reading.specs.Lent.{filled};
-ghost use Rattle.reading.specs.Bulk.{recordOf, records, listed};
+ghost use Rattle.reading.specs.Bulk.{recordOf, records};
+ghost use Rattle.reading.specs.Answers.{answerOfCopied};
 ghost use Rattle.sff.specs.Walk.{Placed, Passage, nextRead, walk as walking};
 ghost use Rattle.sff.specs.Lookup.{found};
 ghost use Rattle.sff.specs.Reads.{readsAt, readsFrom, readsIn, readsReading, readNumbers};
@@ -181,9 +182,9 @@ fn put_halves(s: &[u8], d: Header, n: usize, m: usize, b: Boundary, c: Boundary,
 }
 
 // The n reads from read i on, counted from 0: walked to the last of them, then written.
-fn reads_from(s: &[u8], d: Header, n: usize, i: usize, out: &mut [u64]) -> Listed
+fn reads_from(s: &[u8], d: Header, n: usize, i: usize, out: &mut [u64]) -> Copied
     requires { ⌜ (d .«header_length» ≤ length (now s)) × (i + n < 0x8000000000000000) × (17 * n ≤ length (now out)) ⌝ }
-    ensures { λ r. ⌜ listed r ≡ mapAnswer length (answer (readsFrom d n i) (now (s .entry))) ⌝ }
+    ensures { λ r. ⌜ answerOfCopied r ≡ mapAnswer length (answer (readsFrom d n i) (now (s .entry))) ⌝ }
     ensures { λ _. ⌜ now (out .exit) ≡ filled (mapAnswer (records 17 readNumbers) (answer (readsFrom d n i) (now (s .entry)))) (now (out .entry)) ⌝ }
 {
     let half = n / 2;
@@ -192,36 +193,36 @@ fn reads_from(s: &[u8], d: Header, n: usize, i: usize, out: &mut [u64]) -> Liste
         met: false,
     };
     match walk(s, d, i, 0, front) {
-        Walked::Bad(test, _) => Listed::Refused(test.number),
-        Walked::Short(_, _, _) => Listed::Refused(1),
+        Walked::Bad(test, _) => Copied::Refused(test.number),
+        Walked::Short(_, _, _) => Copied::Refused(1),
         Walked::Behind(b) => match walk(s, d, half, i, b) {
-            Walked::Bad(test, _) => Listed::Refused(test.number),
-            Walked::Short(_, _, _) => Listed::Refused(1),
+            Walked::Bad(test, _) => Copied::Refused(test.number),
+            Walked::Short(_, _, _) => Copied::Refused(1),
             Walked::Behind(c) => match walk(s, d, n - half, i + half, c) {
-                Walked::Bad(test, _) => Listed::Refused(test.number),
-                Walked::Short(_, _, _) => Listed::Refused(1),
+                Walked::Bad(test, _) => Copied::Refused(test.number),
+                Walked::Short(_, _, _) => Copied::Refused(1),
                 Walked::Behind(_) => {
                     put_halves(s, d, n, half, b, c, out);
-                    Listed::Count(n as u64)
+                    Copied::Count(n as u64)
                 }
             },
         },
     }
 }
 
-fn reads_in(s: &[u8], d: Header, first: u64, out: &mut [u64]) -> Listed
+fn reads_in(s: &[u8], d: Header, first: u64, out: &mut [u64]) -> Copied
     requires { ⌜ d .«header_length» ≤ length (now s) ⌝ }
-    ensures { λ r. ⌜ listed r ≡ mapAnswer length (answer (readsIn d first (length (now (out .entry)))) (now (s .entry))) ⌝ }
+    ensures { λ r. ⌜ answerOfCopied r ≡ mapAnswer length (answer (readsIn d first (length (now (out .entry)))) (now (s .entry))) ⌝ }
     ensures { λ _. ⌜ now (out .exit) ≡ filled (mapAnswer (records 17 readNumbers) (answer (readsIn d first (length (now (out .entry)))) (now (s .entry)))) (now (out .entry)) ⌝ }
 {
     if first < 1 {
-        return Listed::Refused(7);
+        return Copied::Refused(7);
     }
     if (d.reads as u64) < first {
-        return Listed::Refused(7);
+        return Copied::Refused(7);
     }
     if out.len() < 17 {
-        return Listed::Refused(13);
+        return Copied::Refused(13);
     }
     let before = (first - 1) as usize;
     let n = smaller(d.reads as usize - before, out.len() / 17);
@@ -229,12 +230,12 @@ fn reads_in(s: &[u8], d: Header, first: u64, out: &mut [u64]) -> Listed
 }
 
 // The reads from number `first` on, as many as are left and as fit, at the output's front: 17 numbers for each.
-pub fn read_many(s: &[u8], first: u64, out: &mut [u64]) -> Listed
-    ensures { λ r. ⌜ listed r ≡ mapAnswer length (answer (readsReading first (length (now (out .entry)))) (now (s .entry))) ⌝ }
+pub fn read_many(s: &[u8], first: u64, out: &mut [u64]) -> Copied
+    ensures { λ r. ⌜ answerOfCopied r ≡ mapAnswer length (answer (readsReading first (length (now (out .entry)))) (now (s .entry))) ⌝ }
     ensures { λ _. ⌜ now (out .exit) ≡ filled (mapAnswer (records 17 readNumbers) (answer (readsReading first (length (now (out .entry)))) (now (s .entry)))) (now (out .entry)) ⌝ }
 {
     match read_fields(s) {
-        Opened::Refused(n) => Listed::Refused(n),
+        Opened::Refused(n) => Copied::Refused(n),
         Opened::At(d) => reads_in(s, d, first, out),
     }
 }

@@ -1,5 +1,4 @@
 -- The refusals of the SFF writer. P is what holds of these, at 0.
--- Assumes nothing.
 use Prim.Native.Nat.{ℕ}
 use mathlib.Core.List.{List}
 use Rattle.reading.proofs.Refused.{Refuses, refuses-done, refuses-must, refuses-bind, refuses-pick}

@@ -1,5 +1,4 @@
 -- SFF: the common header as it is written.
--- Assumes nothing.
 use Prim.Native.Nat.{ℕ, _+_}
 use mathlib.Core.List.{List, _++_}
 use lib.ListN.{length, replicate}

@@ -1,5 +1,4 @@
 -- SFF: a read that the writer is given: its checks, and its bytes.
--- Assumes nothing.
 use Prim.Native.Nat.{ℕ, _+_, _*_, _≤_}
 use mathlib.Core.Path.{_≡_}
 use mathlib.Core.List.{List, _++_}

@@ -1,5 +1,4 @@
 -- SFF: the writer's calls. Each is a tree of checks in document 01's order, run on no bytes.
--- Assumes nothing.
 use Prim.Native.Nat.{ℕ, _+_}
 use mathlib.Core.List.{List}
 use lib.Dec.{leb, ltb, eqb}

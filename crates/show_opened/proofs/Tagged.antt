@@ -1,6 +1,5 @@
 -- A call of an opened file that is given a tag, by a function that makes the struct of a slice, a place and a count and passes it on. One walk of this MIR, by hand, for every such function: they differ in the function that is called and in the type of the answer. Nothing is said of the answer.
 -- What the slice owns goes into the struct and is kept for the exit; the lifetime's token goes to the callee, and comes back.
--- Assumes nothing.
 use mathlib.Core.Path.{refl}
 use Prim.Native.Nat.{ℕ, _<_, _^_}
 use mathlib.Core.List.{List, [], _∷_}

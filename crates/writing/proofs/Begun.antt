@@ -1,6 +1,5 @@
 -- A loop that appends to the output: what is written so far, with what is left to write, is the whole.
 -- W m is what m items left would write from the present state.
--- Assumes nothing.
 use Prim.Native.Nat.{ℕ, zero, suc, _+_, _-_, _≤_, _<_}
 use mathlib.Core.Path.{_≡_, refl, sym, _∙_, ap}
 use mathlib.Core.List.{List, [], _++_, append-assoc, append-nil}

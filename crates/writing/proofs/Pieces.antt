@@ -1,5 +1,4 @@
 -- Three and four pieces, written one behind the other.
--- Assumes nothing.
 use Prim.Native.Nat.{_+_, _≤_, ℕ}
 use mathlib.Core.Path.{_≡_, refl, _∙_}
 use mathlib.Core.List.{List, _++_, append-assoc}

@@ -1,5 +1,4 @@
 -- What the answer of a call that writes a whole file stands for.
--- Assumes nothing.
 use Prim.Native.Nat.{ℕ}
 use Rattle.reading.specs.Check.{Answer, ok, refused}
 use Rattle.writing.specs.declared.answer.Written.{Written}

@@ -1,5 +1,4 @@
 -- Writing: the bytes of numbers, and a list of bytes written over a part of another.
--- Assumes nothing.
 use Prim.Native.Nat.{ℕ, zero, suc, _+_, _/_, _%_, _^_}
 use mathlib.Core.List.{List, [], _∷_, _++_}
 use lib.ListN.{length, getD, take, drop}

@@ -1,5 +1,4 @@
 -- The numbers of the bulk call are the elements from number `first` on: at least one, and as many as are left and as fit.
--- Assumes nothing.
 use Prim.Native.Nat.{ℕ, zero, suc, _+_, _-_, _*_, _≤_}
 use mathlib.Core.Path.{_≡_, refl, sym, _∙_, ap}
 use mathlib.Core.Logic.{_⊎_, inl, inr}

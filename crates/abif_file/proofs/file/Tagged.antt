@@ -1,6 +1,5 @@
 -- A call of an opened file that is given a tag: the struct is taken apart, and a covered function is called on the bytes, the place, the count and the tag. One walk of this MIR, by hand, for every such function: they differ in the function that is called, in the type of the answer and in what is said of it.
 -- What the struct owns is kept whole for the exit; what its bytes own goes to the callee, beside the lifetime's token, which comes back.
--- Assumes nothing.
 use mathlib.Core.Path.{refl}
 use Prim.Native.Nat.{ℕ, _<_, _^_}
 use mathlib.Core.List.{List, [], _∷_}

@@ -1,5 +1,4 @@
 -- The directory's entries in a lent list: the list after each turn of the loop that fills it, and the list that the calls leave.
--- Assumes nothing.
 use Prim.Native.Nat.{ℕ, zero, suc, _+_, _*_, _≤_, _<_}
 use mathlib.Core.Path.{_≡_, refl, _∙_, ap, subst}
 use mathlib.Core.List.{List, [], _∷_, _++_}

@@ -1,5 +1,4 @@
 -- The calls of an opened file, from the answers of their parts.
--- Assumes nothing.
 use Prim.Native.Nat.{ℕ}
 use mathlib.Core.Path.{_≡_, refl, sym, _∙_, ap}
 use mathlib.Core.List.{List}

@@ -1,5 +1,4 @@
 -- The bytes of an entry and of the header, from the writes of their fields.
--- Assumes nothing.
 use Prim.Native.Nat.{ℕ, _+_, _-_, _≤_, _<_}
 use mathlib.Core.Path.{_≡_, refl}
 use mathlib.Core.List.{List}

@@ -1,5 +1,4 @@
 -- The flow steps of a read, from the steps one by one; and the steps of a part, where the code reads them.
--- Assumes nothing.
 use Prim.Native.Nat.{ℕ, zero, suc, _+_, _-_, _*_, _≤_, _<_}
 use mathlib.Core.Path.{_≡_, refl, sym, _∙_, ap}
 use mathlib.Core.List.{List}

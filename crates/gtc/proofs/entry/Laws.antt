@@ -1,16 +1,16 @@
 -- The entry with an id, from the answers of its parts.
--- Assumes nothing.
 use Prim.Native.Nat.{ℕ, _<_}
 use mathlib.Core.Path.{_≡_, refl, sym, _∙_, ap}
 use mathlib.Core.List.{List}
 use mathlib.Core.Bool.{true}
 use native.Mathlib.Omega.{arith}
 use borrow.Author.Tests.{eqb-true}
-use Rattle.reading.specs.Check.{ok, answer, reach}
+use Rattle.reading.specs.Check.{ok, answer}
+use Rattle.reading.proofs.Needed.{reach}
 use Rattle.reading.proofs.Steps.{reach-done}
 use Rattle.reading.proofs.Passed.{bind-ok, done-ok}
 use Rattle.reading.proofs.Reach.{reach-none}
-use Rattle.reading.proofs.entries.Laws.{first-has, one-ok, one-needs-none}
+use Rattle.reading.proofs.Entries.{first-has, one-ok, one-needs-none}
 use Rattle.gtc.specs.declared.entry.Entry.{Entry}
 use Rattle.gtc.specs.Entry.{entryPlace, entryOf, hasId, entryWith}
 

@@ -1,5 +1,4 @@
 -- Items, from the answers of their parts.
--- Assumes nothing.
 use Prim.Native.Nat.{ℕ, _+_, _≤_, _<_, max}
 use mathlib.Core.Path.{_≡_, refl, sym, _∙_}
 use mathlib.Core.List.{List, [], _∷_}
@@ -11,7 +10,8 @@ use borrow.Author.Tests.{eqb-true, le-leb, lt-leb}
 use Rattle.reading.specs.Choice.{pick}
 use Rattle.reading.specs.Number.{be, le}
 use Rattle.reading.specs.declared.check.Rule.the-variants.{NotNegative}
-use Rattle.reading.specs.Check.{passed, failed, short, ok, holds, run, answer, reach, _>>=_}
+use Rattle.reading.specs.Check.{passed, failed, short, ok, holds, run, answer, _>>=_}
+use Rattle.reading.proofs.Needed.{reach}
 use Rattle.reading.proofs.Steps.{run-bind, run-must, run-done, run-need-present, run-need-absent, reach-must, reach-need, reach-done}
 use Rattle.reading.proofs.Cut.{reach-within, answer-ok}
 use Rattle.reading.proofs.Passed.{bind-ok, done-ok}

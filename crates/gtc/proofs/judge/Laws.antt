@@ -1,5 +1,4 @@
 -- Judging, from the answers of its parts.
--- Assumes nothing.
 use Prim.Native.Nat.{ℕ, suc, _+_}
 use mathlib.Core.Path.{_≡_, sym, _∙_}
 use mathlib.Core.List.{List}
@@ -13,8 +12,9 @@ use Rattle.reading.specs.Choice.{pick}
 use Rattle.reading.specs.Number.{le}
 use Rattle.reading.specs.Check.{passed, failed, short, ok, refused, run, answer, holds}
 use Rattle.reading.specs.Entries.{inOrder}
-use Rattle.reading.specs.Explain.{explained, told}
-use Rattle.reading.proofs.Explained.{told-answer}
+use Rattle.reading.specs.Explain.{explanationOf}
+use Rattle.reading.specs.Answers.{answerOfExplanation}
+use Rattle.reading.proofs.Explained.{answer-explained}
 use Rattle.reading.proofs.Steps.{run-bind, run-must, run-done, answer-done}
 use Rattle.reading.proofs.Passed.{bind-refused, bind-answered}
 use Rattle.gtc.specs.declared.entry.Entry.{Entry}
@@ -59,14 +59,14 @@ unfolding judgeEntry
 entry-as s h n i d e l q = rw (q, e)
 
 -- judging a table, from the explanation of its entries
-module _ (s h : List ℕ) (n : ℕ) (r : Explanation) (q : r ≡ explained (run (inOrder (judgeEntry h n) n 0 (tableEnd n)) s)) where
-  entries-answer : told r ≡ answer (inOrder (judgeEntry h n) n 0 (tableEnd n)) s
-  entries-answer = told-answer (inOrder (judgeEntry h n) n 0 (tableEnd n)) s r q
+module _ (s h : List ℕ) (n : ℕ) (r : Explanation) (q : r ≡ explanationOf (run (inOrder (judgeEntry h n) n 0 (tableEnd n)) s)) where
+  entries-answer : answerOfExplanation r ≡ answer (inOrder (judgeEntry h n) n 0 (tableEnd n)) s
+  entries-answer = answer-explained (inOrder (judgeEntry h n) n 0 (tableEnd n)) s r q
 
-  pub table-refused : (k e : ℕ) → told r ≡ refused k e → refused k e ≡ answer (judgeTable h n) s
+  pub table-refused : (k e : ℕ) → answerOfExplanation r ≡ refused k e → refused k e ≡ answer (judgeTable h n) s
   unfolding judgeTable
   table-refused k e w = bind-refused _ _ s k e (sym entries-answer ∙ w)
 
-  pub table-whole : (x u : ℕ) → told r ≡ ok x → u ≡ unjudgedAmong h n 0 → ok (record { extent = x; unjudged = u }) ≡ answer (judgeTable h n) s
+  pub table-whole : (x u : ℕ) → answerOfExplanation r ≡ ok x → u ≡ unjudgedAmong h n 0 → ok (record { extent = x; unjudged = u }) ≡ answer (judgeTable h n) s
   unfolding judgeTable
   table-whole x u w v = rw v (sym (answer-done _ s) ∙ bind-answered _ _ s x (sym entries-answer ∙ w))

@@ -1,5 +1,4 @@
 -- Item j of the bulk call is what is answered for SNP first + j, and there are as many as are left and as fit.
--- Assumes nothing.
 use Prim.Native.Nat.{ℕ, zero, suc, _+_, _-_, _*_, _≤_, _<_}
 use mathlib.Core.Path.{_≡_, refl, sym, _∙_, ap, subst}
 use mathlib.Core.Logic.{_⊎_, inl, inr}

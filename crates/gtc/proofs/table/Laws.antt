@@ -1,5 +1,4 @@
 -- The table's checks, from the answers of their parts.
--- Assumes nothing.
 use Prim.Native.Nat.{ℕ, _+_, _*_, _≤_, _<_}
 use mathlib.Core.Path.{_≡_, refl, sym, _∙_, ap}
 use mathlib.Core.List.{List}
@@ -7,7 +6,7 @@ use native.Mathlib.Omega.{arith}
 use lib.ListN.{length, take}
 use Rattle.reading.specs.declared.check.Test.{Test}
 use Rattle.reading.specs.Number.{be, le}
-use Rattle.reading.specs.Check.{Check, Outcome, passed, failed, short, ok, refused, plain, run, answer, done, _>>=_}
+use Rattle.reading.specs.Check.{Check, Outcome, passed, failed, short, ok, refused, answerOfOutcome, run, answer, done, _>>=_}
 use Rattle.reading.proofs.Cut.{answer-plain}
 use Rattle.reading.proofs.Steps.{run-bind, run-done, run-need-present, run-need-absent}
 use Rattle.reading.proofs.Passed.{bind-ok, need-ok, done-ok, bind-refused, bind-answered, map-refused}
@@ -85,21 +84,21 @@ table-at s n w =
 
 -- what the code has read
 module _ (s : List ℕ) (r : TableRead) (q : read r ≡ run entryCount s) where
-  counted : plain (read r) ≡ answer entryCount s
-  counted = ap plain q ∙ sym (answer-plain entryCount s)
+  counted : answerOfOutcome (read r) ≡ answer entryCount s
+  counted = ap answerOfOutcome q ∙ sym (answer-plain entryCount s)
 
   pub count-good : (n : ℕ) → r ≡ Good n → answer entryCount s ≡ ok n
-  count-good n w = sym counted ∙ ap (λ (x : TableRead). plain (read x)) w
+  count-good n w = sym counted ∙ ap (λ (x : TableRead). answerOfOutcome (read x)) w
 
   -- a call that begins with the table's checks: refused where they are, else what follows them
   module _ {B : Type 0} (f : Table → Check B) where
     pub after-bad : (t : Test) → r ≡ Bad t → refused (t .number) 0 ≡ answer (table >>= f) s
     unfolding entryCount
-    after-bad t w = bind-refused table f s _ 0 (map-refused table (λ t. t .count) s _ 0 (sym counted ∙ ap (λ (x : TableRead). plain (read x)) w))
+    after-bad t w = bind-refused table f s _ 0 (map-refused table (λ t. t .count) s _ 0 (sym counted ∙ ap (λ (x : TableRead). answerOfOutcome (read x)) w))
 
     pub after-short : (p m : ℕ) → r ≡ Short p m → refused 1 0 ≡ answer (table >>= f) s
     unfolding entryCount
-    after-short p m w = bind-refused table f s _ 0 (map-refused table (λ t. t .count) s _ 0 (sym counted ∙ ap (λ (x : TableRead). plain (read x)) w))
+    after-short p m w = bind-refused table f s _ 0 (map-refused table (λ t. t .count) s _ 0 (sym counted ∙ ap (λ (x : TableRead). answerOfOutcome (read x)) w))
 
     pub after-good : (n : ℕ) → r ≡ Good n → answer (f (tableIn s n)) s ≡ answer (table >>= f) s
     after-good n w = bind-answered table f s _ (table-at s n (count-good n w) .1)

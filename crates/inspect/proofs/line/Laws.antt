@@ -1,5 +1,4 @@
 -- How far a signed number of 32 bits is from zero, from its bits.
--- Assumes nothing.
 use Prim.Native.Nat.{_-_, _<_, _≤_}
 use mathlib.Core.Path.{_≡_, refl}
 use native.Mathlib.Omega.{arith}

@@ -1,5 +1,4 @@
 -- The flow of a base, from the sum of the flow steps up to it.
--- Assumes nothing.
 use Prim.Native.Nat.{ℕ, _+_, _≤_}
 use mathlib.Core.Path.{_≡_, sym, _∙_}
 use mathlib.Core.List.{List}

@@ -1,5 +1,4 @@
 -- Judging, from the answers of its parts.
--- Assumes nothing.
 use Prim.Native.Nat.{ℕ, _^_, _<_}
 use mathlib.Core.Path.{_≡_, sym}
 use mathlib.Core.List.{List}
@@ -10,7 +9,7 @@ use Rattle.reading.specs.declared.check.Rule.the-variants.{Other}
 use Rattle.reading.specs.declared.check.Explanation.the-variants as Explanation
 use Rattle.reading.specs.declared.check.Explanation.the-variants.{Whole}
 use Rattle.reading.specs.Check.{Need, passed, failed, short, run, holds}
-use Rattle.reading.specs.Explain.{explained}
+use Rattle.reading.specs.Explain.{explanationOf}
 use Rattle.reading.proofs.Explained.{explained-short}
 use Rattle.reading.proofs.Steps.{run-bind, run-must, run-done}
 use Rattle.reading.proofs.Passed.{stops-failed, stops-short, passes-on}
@@ -21,23 +20,23 @@ use Rattle.sff.specs.Walk.{front, skipIndex, walk, walkPast}
 use Rattle.sff.specs.Judge.{indexMet, ending, judgingReads, judging}
 
 module _ (d : Header) (b : Boundary) (s : List ℕ) where
-  pub ending-short : (p m : ℕ) → run (skipIndex d b) s ≡ short (record { start = p; end = m }) 0 → m < 2 ^ 64 → Explanation.Short p m 0 ≡ explained (run (ending d b) s)
+  pub ending-short : (p m : ℕ) → run (skipIndex d b) s ≡ short (record { start = p; end = m }) 0 → m < 2 ^ 64 → Explanation.Short p m 0 ≡ explanationOf (run (ending d b) s)
   unfolding ending
   ending-short p m h l = simp (run-bind, h) (sym (explained-short p m 0 l))
 
   module _ (c : Boundary) (h : run (skipIndex d b) s ≡ passed c) where
-    ending-met : indexMet d c ≡ true → Whole (c .position) ≡ explained (run (ending d b) s)
+    ending-met : indexMet d c ≡ true → Whole (c .position) ≡ explanationOf (run (ending d b) s)
     unfolding ending holds
     ending-met q = simp (run-bind, h, run-must, q, run-done)
 
-    pub ending-none : d .«index_offset» ≡ 0 → Whole (c .position) ≡ explained (run (ending d b) s)
+    pub ending-none : d .«index_offset» ≡ 0 → Whole (c .position) ≡ explanationOf (run (ending d b) s)
     ending-none q = ending-met (rw (eq-eqb (d .«index_offset») 0 q))
 
     module _ (q : d .«index_offset» ≡ 0 → ⊥) where
-      pub ending-behind : c .met ≡ true → Whole (c .position) ≡ explained (run (ending d b) s)
+      pub ending-behind : c .met ≡ true → Whole (c .position) ≡ explanationOf (run (ending d b) s)
       ending-behind m = ending-met (rw (ne-eqb (d .«index_offset») 0 q) m)
 
-      pub ending-unmet : c .met ≡ false → Explanation.Failed (record { field = indexOffset d; rule = Other isMet false; number = 4 }) 0 ≡ explained (run (ending d b) s)
+      pub ending-unmet : c .met ≡ false → Explanation.Failed (record { field = indexOffset d; rule = Other isMet false; number = 4 }) 0 ≡ explanationOf (run (ending d b) s)
       unfolding ending holds
       ending-unmet m = simp (run-bind, h, run-must, ne-eqb (d .«index_offset») 0 q, m)
 

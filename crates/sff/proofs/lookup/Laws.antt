@@ -1,5 +1,4 @@
 -- A read, from the answers of its parts; and where its parts lie.
--- Assumes nothing.
 use Prim.Native.Nat.{ℕ, _+_, _*_, _≤_, max}
 use mathlib.Core.Path.{_≡_, refl, sym, _∙_, ap, subst}
 use mathlib.Core.List.{List}
@@ -10,7 +9,7 @@ use lib.Dec.{leb, eqb}
 use borrow.Author.Tests.{leb-true}
 use Rattle.reading.specs.declared.check.Test.{Test}
 use Rattle.reading.specs.Choice.{pick}
-use Rattle.reading.specs.Check.{Need, passed, failed, short, ok, refused, plain, run, answer, holds}
+use Rattle.reading.specs.Check.{Need, passed, failed, short, ok, refused, answerOfOutcome, run, answer, holds}
 use Rattle.reading.specs.Part.{Part, partOf, partWithin, Span}
 use Rattle.reading.proofs.Cut.{answer-plain, run-ok}
 use Rattle.reading.proofs.Steps.{answer-bind, answer-done}
@@ -124,11 +123,11 @@ number-fits s k r w =
 module _ (f p : ℕ) (s : List ℕ) where
   pub from-failed : (t : Test) → run (framing f p) s ≡ failed t 0 → refused (t .number) 0 ≡ answer (readFrom f p) s
   unfolding framing readFrom
-  from-failed t h = sym (answer-plain _ s ∙ ap plain (stops-failed (present f p) (λ r. readEnd f (r .fields)) (λ r. readContents f (r .fields) (r .upTo)) s t 0 h))
+  from-failed t h = sym (answer-plain _ s ∙ ap answerOfOutcome (stops-failed (present f p) (λ r. readEnd f (r .fields)) (λ r. readContents f (r .fields) (r .upTo)) s t 0 h))
 
   pub from-short : (m : Need) → run (framing f p) s ≡ short m 0 → refused 1 0 ≡ answer (readFrom f p) s
   unfolding framing readFrom
-  from-short m h = sym (answer-plain _ s ∙ ap plain (stops-short (present f p) (λ r. readEnd f (r .fields)) (λ r. readContents f (r .fields) (r .upTo)) s m 0 h))
+  from-short m h = sym (answer-plain _ s ∙ ap answerOfOutcome (stops-short (present f p) (λ r. readEnd f (r .fields)) (λ r. readContents f (r .fields) (r .upTo)) s m 0 h))
 
   module _ (e : ℕ) (h : run (framing f p) s ≡ passed e) where
     pub from-there : (p + 16 ≤ length s) × (e ≤ length s) × (readEnd f (fields s p) ≡ e)
@@ -162,7 +161,7 @@ module _ (d : Header) (k : ℕ) (s : List ℕ) (b : Boundary) (h : answer (befor
   pub in-cut : (m : Need) → run (skipIndex d b) s ≡ short m 0 → refused 1 0 ≡ answer (readIn d k) s
   unfolding readIn
   in-cut m q =
-      let f : answer (skipIndex d b) s ≡ refused 1 0 = answer-plain _ s ∙ ap plain q in
+      let f : answer (skipIndex d b) s ≡ refused 1 0 = answer-plain _ s ∙ ap answerOfOutcome q in
       simp (answer-bind, h, f)
 
   pub in-found : (c : Boundary) → run (skipIndex d b) s ≡ passed c → answer (readFrom (d .flows) (c .position)) s ≡ answer (readIn d k) s

@@ -1,5 +1,4 @@
 -- Rounding up to 8 adds at most 7.
--- Assumes nothing.
 use Prim.Native.Nat.{ℕ, _+_, _≤_}
 use native.Mathlib.Omega.{arith}
 use Rattle.sff.specs.Padding.{padding, padded}

@@ -1,5 +1,4 @@
 -- Reads, from the answers of the walk.
--- Assumes nothing.
 use Prim.Native.Nat.{ℕ, zero, suc, _+_, _-_, _*_, _/_, _≤_, _<_}
 use mathlib.Core.Path.{_≡_, refl, sym, _∙_, ap, subst}
 use mathlib.Core.List.{List, [], _∷_, _++_, append-assoc, append-nil}
@@ -9,7 +8,7 @@ use lib.ListN.{length, take, drop, length-append, length-drop}
 use lib.Seq.{take-length, drop-length, drop-drop, take-at, drop-at}
 use borrow.Author.Tests.{le-leb, lt-leb}
 use Rattle.reading.specs.declared.check.Test.{Test}
-use Rattle.reading.specs.Check.{Need, Outcome, passed, failed, short, Answer, ok, refused, plain, run, answer, holds, done}
+use Rattle.reading.specs.Check.{Need, Outcome, passed, failed, short, Answer, ok, refused, answerOfOutcome, run, answer, holds, done}
 use Rattle.reading.specs.Bulk.{leftFrom, fitting, recordOf, records}
 use Rattle.reading.proofs.Cut.{run-ok, answer-ok, answer-plain, answer-same}
 use Rattle.reading.proofs.Steps.{then, answer-bind, answer-must, answer-done, answer-at, answer-need-present}
@@ -261,20 +260,20 @@ module _ (d : Header) (n i : ℕ) (s : List ℕ) where
   walk-refused k e h = simp (answer-bind, answer-at, map-refused (walk d (i + n) 0 (front d)) (λ w. w .behind) s k e h)
 
   pub first-failed : (t : Test) (e : ℕ) → run (walkPast d i 0 (front d)) s ≡ failed t e → refused (t .number) 0 ≡ answer (readsFrom d n i) s
-  first-failed t e h = walk-refused (t .number) e (answer-plain _ s ∙ ap plain (past-plus d s i n 0 (front d) ∙ ap (λ (o : Outcome Boundary). then o (λ c. run (walkPast d n (0 + i) c) s)) h))
+  first-failed t e h = walk-refused (t .number) e (answer-plain _ s ∙ ap answerOfOutcome (past-plus d s i n 0 (front d) ∙ ap (λ (o : Outcome Boundary). then o (λ c. run (walkPast d n (0 + i) c) s)) h))
 
   pub first-short : (m : Need) (e : ℕ) → run (walkPast d i 0 (front d)) s ≡ short m e → refused 1 0 ≡ answer (readsFrom d n i) s
-  first-short m e h = walk-refused 1 e (answer-plain _ s ∙ ap plain (past-plus d s i n 0 (front d) ∙ ap (λ (o : Outcome Boundary). then o (λ c. run (walkPast d n (0 + i) c) s)) h))
+  first-short m e h = walk-refused 1 e (answer-plain _ s ∙ ap answerOfOutcome (past-plus d s i n 0 (front d) ∙ ap (λ (o : Outcome Boundary). then o (λ c. run (walkPast d n (0 + i) c) s)) h))
 
   module _ (b : Boundary) (h : run (walkPast d i 0 (front d)) s ≡ passed b) where
     both : run (walkPast d (i + n) 0 (front d)) s ≡ run (walkPast d n i b) s
     both = past-plus d s i n 0 (front d) ∙ ap (λ (o : Outcome Boundary). then o (λ c. run (walkPast d n (0 + i) c) s)) h ∙ ap (λ (j : ℕ). run (walkPast d n j b) s) (zero-add i)
 
     pub then-failed : (t : Test) (e : ℕ) → run (walkPast d n i b) s ≡ failed t e → refused (t .number) 0 ≡ answer (readsFrom d n i) s
-    then-failed t e k = walk-refused (t .number) e (answer-plain _ s ∙ ap plain (both ∙ k))
+    then-failed t e k = walk-refused (t .number) e (answer-plain _ s ∙ ap answerOfOutcome (both ∙ k))
 
     pub then-short : (m : Need) (e : ℕ) → run (walkPast d n i b) s ≡ short m e → refused 1 0 ≡ answer (readsFrom d n i) s
-    then-short m e k = walk-refused 1 e (answer-plain _ s ∙ ap plain (both ∙ k))
+    then-short m e k = walk-refused 1 e (answer-plain _ s ∙ ap answerOfOutcome (both ∙ k))
 
     module _ (c : Boundary) (k : run (walkPast d n i b) s ≡ passed c) (u : d .«header_length» ≤ length s) where
       -- the walk over the n reads

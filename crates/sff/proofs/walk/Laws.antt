@@ -1,5 +1,4 @@
 -- The walk over the reads, from the answers of its parts.
--- Assumes nothing.
 use Prim.Native.Nat.{ℕ, zero, suc, _+_, _-_, _≤_, _<_}
 use mathlib.Core.Path.{_≡_, refl, sym, _∙_, ap, subst}
 use mathlib.Core.List.{List, [], _∷_}
@@ -9,7 +8,7 @@ use lib.Dec.{eqb}
 use borrow.Author.Tests.{eq-eqb, ne-eqb, le-leb, lt-leb}
 use Rattle.reading.specs.declared.check.Test.{Test}
 use Rattle.reading.specs.Choice.{pick}
-use Rattle.reading.specs.Check.{Need, Outcome, passed, failed, short, ok, refused, plain, run, answer, holds, done, need, _>>_}
+use Rattle.reading.specs.Check.{Need, Outcome, passed, failed, short, ok, refused, answerOfOutcome, run, answer, holds, done, need, _>>_}
 use Rattle.reading.proofs.Cut.{run-ok, answer-ok, answer-plain}
 use Rattle.reading.proofs.Steps.{then, run-bind, run-done, run-at, run-need-present, run-need-absent, answer-bind, answer-must, answer-done, answer-at, answerAt}
 use Rattle.reading.proofs.Passed.{bind-ok, done-ok, must-ok, need-ok, at-ok}
@@ -154,8 +153,8 @@ module _ (d : Header) (k : ℕ) (s : List ℕ) where
       unfolding beforeRead holds
       before-walk = simp (answer-bind, answer-must, le-leb 1 k h, le-leb k (d .reads) l, answer-at)
 
-      pub before-found : (o : Outcome Boundary) → o ≡ run (walkPast d (k - 1) 0 (front d)) s → answerAt 0 (plain o) ≡ answer (beforeRead d k) s
-      before-found o q = ap (λ (x : Outcome Boundary). answerAt 0 (plain x)) q ∙ ap (answerAt 0) (sym (answer-plain _ s)) ∙ before-walk
+      pub before-found : (o : Outcome Boundary) → o ≡ run (walkPast d (k - 1) 0 (front d)) s → answerAt 0 (answerOfOutcome o) ≡ answer (beforeRead d k) s
+      before-found o q = ap (λ (x : Outcome Boundary). answerAt 0 (answerOfOutcome x)) q ∙ ap (answerAt 0) (sym (answer-plain _ s)) ∙ before-walk
 
   -- where there is one, the read is one of the file's, the walk has come there, and the boundary lies within the file
   pub before-walked : (b : Boundary) → answer (beforeRead d k) s ≡ ok b → (1 ≤ k) × (k ≤ d .reads) × (answer (walkPast d (k - 1) 0 (front d)) s ≡ ok b)

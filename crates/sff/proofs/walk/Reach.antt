@@ -1,5 +1,4 @@
 -- How many bytes a walk that passes needs: just up to the boundary behind it.
--- Assumes nothing.
 use Prim.Native.Nat.{ℕ, zero, suc, _+_, _*_, _≤_, max}
 use mathlib.Core.Path.{_≡_, _∙_, ap}
 use mathlib.Core.List.{List}
@@ -7,7 +6,8 @@ use mathlib.Core.Bool.{Bool, true, false}
 use native.Mathlib.Omega.{arith}
 use lib.Dec.{eqb}
 use Rattle.reading.specs.Choice.{pick}
-use Rattle.reading.specs.Check.{ok, answer, reach, done, need, _>>_}
+use Rattle.reading.specs.Check.{ok, answer, done, need, _>>_}
+use Rattle.reading.proofs.Needed.{reach}
 use Rattle.reading.proofs.Steps.{reach-must, reach-need, reach-done, reach-at}
 use Rattle.reading.proofs.Passed.{bind-ok, done-ok, at-ok}
 use Rattle.sff.specs.declared.header.Header.{Header}

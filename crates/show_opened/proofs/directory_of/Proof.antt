@@ -1,5 +1,4 @@
 -- `directory_of` is safe and ends: a walk of its MIR, by hand. `file::open` is called on the slice, and the answer is made of two numbers of the struct that it returns.
--- Assumes nothing.
 use mathlib.Core.Path.{refl}
 use Prim.Native.Nat.{ℕ, _<_, _^_}
 use mathlib.Core.List.{List, [], _∷_}

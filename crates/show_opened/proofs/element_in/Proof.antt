@@ -1,5 +1,4 @@
 -- `element_in` is safe and ends: a walk of its MIR, by hand. The struct is made and passed to `file::read_element` with the tag and the index, as in `Tagged.antt`, with one number more.
--- Assumes nothing.
 use mathlib.Core.Path.{refl}
 use Prim.Native.Nat.{ℕ, _<_, _^_}
 use mathlib.Core.List.{List, [], _∷_}

@@ -1,5 +1,4 @@
 -- `lookup_in` is safe and ends: a call that is given a tag.
--- Assumes nothing.
 use contract.Running.{givenOf, tables, tablesOf}
 use denote.Enum.Laws as EL
 use denote.Signature.{plain}

@@ -1,5 +1,4 @@
 -- `file::list` meets its contract: a walk of its MIR, by hand. `list_answer` is asked with the struct's fields and the list's length, `to_list` of its answer, and the list goes with the bytes to `fill`, which gives nothing back but what says the last list (`gave-slice`). The struct is Copy, so a copy of what it owns is kept for the exit.
--- Assumes nothing.
 use mathlib.Core.Path.{_≡_, refl}
 use Prim.Native.Nat.{ℕ, _<_, _^_}
 use mathlib.Core.List.{[], _∷_, List, _++_}

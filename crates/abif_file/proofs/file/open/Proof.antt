@@ -1,5 +1,4 @@
 -- `file::open` meets its contract: a walk of its MIR, by hand. `directory_of` is called on the slice, and the struct is made of the slice and the two numbers of its answer.
--- Assumes nothing.
 use mathlib.Core.Path.{_≡_, refl}
 use Prim.Native.Nat.{ℕ, _<_, _^_}
 use mathlib.Core.List.{List, [], _∷_}

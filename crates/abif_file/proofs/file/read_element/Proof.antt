@@ -1,5 +1,4 @@
 -- `file::read_element` meets its contract: a walk of its MIR, by hand. The struct is taken apart, and `opened::read_element` is called on the bytes, the place, the count, the tag and the index, as in `Tagged.antt`, with one number more.
--- Assumes nothing.
 use mathlib.Core.Path.{_≡_, refl}
 use Prim.Native.Nat.{ℕ, _<_, _^_}
 use mathlib.Core.List.{List, [], _∷_}

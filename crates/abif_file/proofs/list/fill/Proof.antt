@@ -1,5 +1,4 @@
 -- `list::fill` meets its contract: a walk of its MIR, by hand. The directory's place is read once, and the slice of records is opened once, before the loop, and closed once, after it. A turn calls `raw_entry`, and stores its answer at element i.
--- Assumes nothing.
 use mathlib.Core.Path.{_≡_, refl, sym, _∙_, ap, subst}
 use Prim.Native.Nat.{ℕ, zero, suc, _+_, _*_, _<_, _≤_, _^_}
 use native.Mathlib.Nat.{add-zero, add-suc, zero-add, suc-add, lt-of-le-of-lt, lt-of-lt-of-le, le-add-right, le-of-lt, lt-suc-self, lt-irrefl}

@@ -1,5 +1,4 @@
 -- `list::list` meets its contract: a walk of its MIR, by hand. `list_answer` is asked with the list's length, `to_list` of its answer, and the list goes to `fill`, which gives nothing back but what says the last list (`gave-slice`).
--- Assumes nothing.
 use mathlib.Core.Path.{_≡_, refl}
 use Prim.Native.Nat.{ℕ}
 use mathlib.Core.List.{[], _∷_, List, _++_}

@@ -1,5 +1,4 @@
 -- `jt_abif_list::jt_abif_list` meets its contract: a walk of its MIR, by hand. The list goes to `list::list`, which gives nothing back but what says the last list (`gave-slice`), and `as_listed` makes the answer.
--- Assumes nothing.
 use mathlib.Core.Path.{_≡_, refl, _∙_, ap}
 use Prim.Native.Nat.{ℕ}
 use mathlib.Core.List.{[], _∷_, List}

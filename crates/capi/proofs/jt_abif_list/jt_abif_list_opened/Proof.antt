@@ -1,5 +1,4 @@
 -- `jt_abif_list::jt_abif_list_opened` meets its contract: a walk of its MIR, by hand. The struct is made of the bytes and the two numbers, the list goes to `file::list` with it, which gives nothing back but what says the last list (`gave-slice`), and `as_listed` makes the answer.
--- Assumes nothing.
 use mathlib.Core.Path.{_≡_, refl, _∙_, ap}
 use Prim.Native.Nat.{ℕ, _<_, _^_}
 use mathlib.Core.List.{[], _∷_, List}

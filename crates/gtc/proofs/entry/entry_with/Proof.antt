@@ -6,7 +6,7 @@ use Rattle.reading.specs.declared.check.Test.{Test}
 use Rattle.reading.specs.Check.{passed, failed}
 use Rattle.reading.proofs.Steps.{run-done}
 use Rattle.reading.proofs.Passed.{bind-failed, bind-passed}
-use Rattle.reading.proofs.entries.Laws.{first-all, one-none, one-twice, one-found}
+use Rattle.reading.proofs.Entries.{first-all, one-none, one-twice, one-found}
 use Rattle.gtc.specs.Entry.{hasId, entryWith}
 
 first-id-requires : tie.Need-first-id-requires

@@ -5,7 +5,7 @@ use mathlib.Core.Path.{ap}
 use native.Mathlib.Omega.{arith}
 use Rattle.reading.proofs.Loop.{Left, left-next, left-stop, left-end}
 use Rattle.reading.specs.Entries.{firstWith}
-use Rattle.reading.proofs.entries.Laws.{first-here, first-on}
+use Rattle.reading.proofs.Entries.{first-here, first-on}
 use Rattle.gtc.specs.Entry.{hasId}
 
 abbrev Inv-loop : tie.InvT-loop

@@ -2,7 +2,7 @@ use borrow.Author.Needs.{needs}
 use Rattle.gtc.proofs.item.snp_array_tests.Statement.{statement}
 use Rattle.gtc.proofs.item.snp_array_tests.Tie as tie
 use mathlib.Core.Path.{sym, _∙_, ap}
-use Rattle.reading.specs.Explain.{tested}
+use Rattle.reading.specs.Answers.{outcomeOfTested}
 use Rattle.reading.proofs.Passed.{bind-short, bind-failed, bind-passed}
 use Rattle.gtc.specs.Item.{shapeCheck, count}
 
@@ -33,7 +33,7 @@ returns c =
     let t = c .before .before .before in
     let k = t .before .before .before .before in
     let s = k .before .before .before .before .args .s .now in
-    bind-failed _ _ s _ 0 (sym (t .snp-tests .ensures s) ∙ ap tested (c .before .t2 .given .1)) ∙ bind-passed _ _ s _ (sym (k .array-count .ensures) ∙ ap count (t .before .before .m .given .1))
+    bind-failed _ _ s _ 0 (sym (t .snp-tests .ensures s) ∙ ap outcomeOfTested (c .before .t2 .given .1)) ∙ bind-passed _ _ s _ (sym (k .array-count .ensures) ∙ ap count (t .before .before .m .given .1))
 
 enum-told : tie.Need-enum-told
 enum-told c = search needs
@@ -61,7 +61,7 @@ returns-4 c =
     let t = c .before .before .before in
     let k = t .before .before .before .before in
     let s = k .before .before .before .before .args .s .now in
-    c .elements-of .ensures ∙ bind-passed _ _ s _ (sym (t .snp-tests .ensures s) ∙ ap tested (c .before .enum-told .given .1)) ∙ bind-passed _ _ s _ (sym (k .array-count .ensures) ∙ ap count (t .before .before .m .given .1))
+    c .elements-of .ensures ∙ bind-passed _ _ s _ (sym (t .snp-tests .ensures s) ∙ ap outcomeOfTested (c .before .enum-told .given .1)) ∙ bind-passed _ _ s _ (sym (k .array-count .ensures) ∙ ap count (t .before .before .m .given .1))
 
 pub snp-array-tests-spec : {M : Type 1} → statement M
 snp-array-tests-spec =

@@ -3,17 +3,17 @@ use mathlib.Core.Path.{sym, _∙_, ap}
 use native.Mathlib.Omega.{arith}
 use borrow.Author.Needs.{needs}
 use Rattle.reading.specs.Check.{run}
-use Rattle.reading.specs.Explain.{explained}
+use Rattle.reading.specs.Explain.{explanationOf}
 use Rattle.reading.proofs.Loop.{Left, left-start, left-next, left-stop, left-end}
 use Rattle.gtc.specs.Table.{tableEnd}
 use Rattle.reading.specs.Entries.{inOrder}
-use Rattle.reading.proofs.entries.Laws.{order-failed, order-short, order-next, order-end}
+use Rattle.reading.proofs.Entries.{order-failed, order-short, order-next, order-end}
 use Rattle.gtc.specs.Judge.{judgeEntry, judgedEntry}
 use Rattle.gtc.proofs.judge.explain_entries.Statement.{statement}
 use Rattle.gtc.proofs.judge.explain_entries.Tie as tie
 
 abbrev Inv-loop : tie.InvT-loop
-Inv-loop s h n x₀ i₀ x i = (i ≤ n) × Left (λ m. explained (run (inOrder (judgeEntry h n) m i x) s)) n i (explained (run (inOrder (judgeEntry h n) n 0 (tableEnd n)) s))
+Inv-loop s h n x₀ i₀ x i = (i ≤ n) × Left (λ m. explanationOf (run (inOrder (judgeEntry h n) m i x) s)) n i (explanationOf (run (inOrder (judgeEntry h n) n 0 (tableEnd n)) s))
 
 abbrev μ-loop : tie.MeasureT-loop
 μ-loop s h n x₀ i₀ x i = n - i

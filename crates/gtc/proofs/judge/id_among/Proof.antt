@@ -2,7 +2,7 @@ use Prim.Native.Nat.{ℕ}
 use mathlib.Core.Path.{_∙_, ap}
 use lib.Dec.{ltb}
 use borrow.Author.Needs.{needs}
-use Rattle.reading.proofs.entries.Laws.{first-all}
+use Rattle.reading.proofs.Entries.{first-all}
 use Rattle.gtc.specs.Entry.{hasId}
 use Rattle.gtc.proofs.judge.id_among.Statement.{statement}
 use Rattle.gtc.proofs.judge.id_among.Tie as tie

@@ -3,7 +3,7 @@ use Rattle.gtc.proofs.lookup.lookup_listed.Statement.{statement}
 use Rattle.gtc.proofs.lookup.lookup_listed.Tie as tie
 use native.Mathlib.Omega.{arith}
 use mathlib.Core.Path.{sym, _∙_, ap}
-use Rattle.reading.specs.Check.{plain}
+use Rattle.reading.specs.Check.{answerOfOutcome}
 use Rattle.reading.proofs.Cut.{answer-plain, run-ok}
 use Rattle.reading.proofs.Passed.{bind-failed, bind-passed}
 use Rattle.gtc.specs.Entry.{entryFound}
@@ -41,7 +41,7 @@ unfolding lookupListed
 returns c =
     let e = c .before .before .before in
     let s = e .before .before .before .args .s .now in
-    ap plain (bind-failed _ _ s _ 0 (sym (e .entry-with .ensures s) ∙ ap entryFound (c .before .t .given .1))) ∙ sym (answer-plain _ s)
+    ap answerOfOutcome (bind-failed _ _ s _ 0 (sym (e .entry-with .ensures s) ∙ ap entryFound (c .before .t .given .1))) ∙ sym (answer-plain _ s)
 
 returns-2 : tie.Need-returns-2
 unfolding lookupListed
@@ -49,7 +49,7 @@ returns-2 c =
     let t = c .before .before .before in
     let e = t .before .before .before .before in
     let s = e .before .before .before .args .s .now in
-    ap plain (sym (ap item (c .before .t2 .given .1)) ∙ t .item-tests .ensures ∙ bind-passed _ _ s _ (sym (e .entry-with .ensures s) ∙ ap entryFound (t .before .before .d .given .1))) ∙ sym (answer-plain _ s)
+    ap answerOfOutcome (sym (ap item (c .before .t2 .given .1)) ∙ t .item-tests .ensures ∙ bind-passed _ _ s _ (sym (e .entry-with .ensures s) ∙ ap entryFound (t .before .before .d .given .1))) ∙ sym (answer-plain _ s)
 
 returns-3 : tie.Need-returns-3
 unfolding lookupListed
@@ -57,7 +57,7 @@ returns-3 c =
     let t = c .before .before in
     let e = t .before .before .before .before in
     let s = e .before .before .before .args .s .now in
-    ap plain (sym (ap item (c .enum-told .given .1)) ∙ t .item-tests .ensures ∙ bind-passed _ _ s _ (sym (e .entry-with .ensures s) ∙ ap entryFound (t .before .before .d .given .1))) ∙ sym (answer-plain _ s)
+    ap answerOfOutcome (sym (ap item (c .enum-told .given .1)) ∙ t .item-tests .ensures ∙ bind-passed _ _ s _ (sym (e .entry-with .ensures s) ∙ ap entryFound (t .before .before .d .given .1))) ∙ sym (answer-plain _ s)
 
 returns-4 : tie.Need-returns-4
 unfolding lookupListed
@@ -65,7 +65,7 @@ returns-4 c =
     let t = c .before .before .before in
     let e = t .before .before .before .before in
     let s = e .before .before .before .args .s .now in
-    ap plain (sym (ap item (c .before .q .given .1)) ∙ t .item-tests .ensures ∙ bind-passed _ _ s _ (sym (e .entry-with .ensures s) ∙ ap entryFound (t .before .before .d .given .1))) ∙ sym (answer-plain _ s)
+    ap answerOfOutcome (sym (ap item (c .before .q .given .1)) ∙ t .item-tests .ensures ∙ bind-passed _ _ s _ (sym (e .entry-with .ensures s) ∙ ap entryFound (t .before .before .d .given .1))) ∙ sym (answer-plain _ s)
 
 pub lookup-listed-spec : {M : Type 1} → statement M
 lookup-listed-spec =

@@ -1,7 +1,7 @@
 use mathlib.Core.Path.{sym, _∙_, ap}
 use native.Mathlib.Omega.{arith}
 use borrow.Author.Needs.{needs}
-use Rattle.reading.specs.Explain.{explained}
+use Rattle.reading.specs.Explain.{explanationOf}
 use Rattle.reading.proofs.Cut.{run-ok}
 use Rattle.reading.proofs.Explained.{explained-short}
 use Rattle.sff.specs.Header.{read}
@@ -28,13 +28,13 @@ explain-reads-requires c κs =
     header-there _ _ (run-ok _ _ _ (sym (k .read-header .ensures) ∙ ap read (c .before .d .given .1)))
 
 returns : tie.Need-returns
-returns c = sym (ap explained (judge-failed _ _ (sym (c .before .before .before .read-header .ensures) ∙ ap read (c .before .test .given .1))))
+returns c = sym (ap explanationOf (judge-failed _ _ (sym (c .before .before .before .read-header .ensures) ∙ ap read (c .before .test .given .1))))
 
 returns-2 : tie.Need-returns-2
-returns-2 c = sym (ap explained (judge-short _ _ (sym (c .before .before .before .read-header .ensures) ∙ ap read (c .before .start .given .1))) ∙ explained-short _ _ _ (omega arith))
+returns-2 c = sym (ap explanationOf (judge-short _ _ (sym (c .before .before .before .read-header .ensures) ∙ ap read (c .before .start .given .1))) ∙ explained-short _ _ _ (omega arith))
 
 returns-3 : tie.Need-returns-3
-returns-3 c = c .explain-reads .ensures ∙ ap explained (judge-passed _ _ (sym (c .before .before .before .before .read-header .ensures) ∙ ap read (c .before .before .d .given .1)))
+returns-3 c = c .explain-reads .ensures ∙ ap explanationOf (judge-passed _ _ (sym (c .before .before .before .before .read-header .ensures) ∙ ap read (c .before .before .d .given .1)))
 
 pub explain-spec : {M : Type 1} → statement M
 explain-spec =

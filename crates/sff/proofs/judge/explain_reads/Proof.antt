@@ -1,7 +1,7 @@
 use mathlib.Core.Path.{sym, _∙_, ap}
 use native.Mathlib.Omega.{arith}
 use borrow.Author.Needs.{needs}
-use Rattle.reading.specs.Explain.{explained}
+use Rattle.reading.specs.Explain.{explanationOf}
 use Rattle.reading.proofs.Explained.{explained-short}
 use Rattle.sff.specs.Walk.{past}
 use Rattle.sff.proofs.walk.Laws.{past-within}
@@ -33,13 +33,13 @@ explain-ending-requires c κs =
     past-within _ _ _ _ _ _ (omega arith) (sym (k .walk .ensures) ∙ ap past (c .before .b .given .1))
 
 returns : tie.Need-returns
-returns c = sym (ap explained (reads-failed _ _ _ _ (sym (c .before .before .before .walk .ensures) ∙ ap past (c .before .test .given .1))))
+returns c = sym (ap explanationOf (reads-failed _ _ _ _ (sym (c .before .before .before .walk .ensures) ∙ ap past (c .before .test .given .1))))
 
 returns-2 : tie.Need-returns-2
-returns-2 c = sym (ap explained (reads-short _ _ _ _ (sym (c .before .before .before .walk .ensures) ∙ ap past (c .before .start .given .1))) ∙ explained-short _ _ _ (omega arith))
+returns-2 c = sym (ap explanationOf (reads-short _ _ _ _ (sym (c .before .before .before .walk .ensures) ∙ ap past (c .before .start .given .1))) ∙ explained-short _ _ _ (omega arith))
 
 returns-3 : tie.Need-returns-3
-returns-3 c = c .explain-ending .ensures ∙ ap explained (reads-passed _ _ _ (sym (c .before .before .before .before .walk .ensures) ∙ ap past (c .before .before .b .given .1)))
+returns-3 c = c .explain-ending .ensures ∙ ap explanationOf (reads-passed _ _ _ (sym (c .before .before .before .before .walk .ensures) ∙ ap past (c .before .before .b .given .1)))
 
 pub explain-reads-spec : {M : Type 1} → statement M
 explain-reads-spec =

@@ -1,7 +1,7 @@
 use mathlib.Core.Path.{sym, _∙_, ap}
 use borrow.Author.Needs.{needs}
-use Rattle.reading.specs.Explain.{told}
-use Rattle.reading.proofs.Explained.{told-answer}
+use Rattle.reading.specs.Answers.{answerOfExplanation}
+use Rattle.reading.proofs.Explained.{answer-explained}
 use Rattle.sff.specs.Judge.{judging}
 use Rattle.sff.proofs.judge.judge.Statement.{statement}
 use Rattle.sff.proofs.judge.judge.Tie as tie
@@ -22,16 +22,16 @@ enum-known-entry-2 : tie.Need-enum-known-entry-2
 enum-known-entry-2 c = search needs
 
 returns : tie.Need-returns
-returns c = sym (ap told (c .before .x .given .1)) ∙ told-answer judging (c .before .before .before .before .before .args .s .now) _ (c .before .before .before .explain .ensures)
+returns c = sym (ap answerOfExplanation (c .before .x .given .1)) ∙ answer-explained judging (c .before .before .before .before .before .args .s .now) _ (c .before .before .before .explain .ensures)
 
 returns-2 : tie.Need-returns-2
-returns-2 c = sym (ap told (c .before .test .given .1)) ∙ told-answer judging (c .before .before .before .before .before .args .s .now) _ (c .before .before .before .explain .ensures)
+returns-2 c = sym (ap answerOfExplanation (c .before .test .given .1)) ∙ answer-explained judging (c .before .before .before .before .before .args .s .now) _ (c .before .before .before .explain .ensures)
 
 returns-3 : tie.Need-returns-3
-returns-3 c = sym (ap told (c .before .entry .given .1)) ∙ told-answer judging (c .before .before .before .before .before .args .s .now) _ (c .before .before .before .explain .ensures)
+returns-3 c = sym (ap answerOfExplanation (c .before .entry .given .1)) ∙ answer-explained judging (c .before .before .before .before .before .args .s .now) _ (c .before .before .before .explain .ensures)
 
 returns-4 : tie.Need-returns-4
-returns-4 c = sym (ap told (c .before .entry2 .given .1)) ∙ told-answer judging (c .before .before .before .before .before .args .s .now) _ (c .before .before .before .explain .ensures)
+returns-4 c = sym (ap answerOfExplanation (c .before .entry2 .given .1)) ∙ answer-explained judging (c .before .before .before .before .before .args .s .now) _ (c .before .before .before .explain .ensures)
 
 pub judge-spec : {M : Type 1} → statement M
 judge-spec =

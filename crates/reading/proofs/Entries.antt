@@ -1,5 +1,4 @@
 -- The search for an entry, and the checks of entries in order.
--- Assumes nothing.
 use Prim.Native.Nat.{ℕ, zero, suc, _+_, _-_, _^_, _≤_, _<_, max}
 use mathlib.Core.Path.{_≡_, refl, _∙_, ap}
 use mathlib.Core.List.{List}
@@ -10,8 +9,9 @@ use borrow.Author.Tests.{lt-ltb, le-ltb, eq-eqb, ne-eqb, ltb-true, leb-true, leb
 use Rattle.reading.specs.declared.check.Test.{Test}
 use Rattle.reading.specs.declared.check.Explanation.the-variants as Explanation
 use Rattle.reading.specs.Choice.{pick}
-use Rattle.reading.specs.Check.{Check, passed, failed, short, failing, ok, run, answer, reach, holds}
-use Rattle.reading.specs.Explain.{explained}
+use Rattle.reading.specs.Check.{Check, passed, failed, short, failing, ok, run, answer, holds}
+use Rattle.reading.proofs.Needed.{reach}
+use Rattle.reading.specs.Explain.{explanationOf}
 use Rattle.reading.specs.Entries.{firstWith, oneWith, inOrder}
 use Rattle.reading.proofs.Steps.{run-bind, run-must, run-done, run-at, answer-bind, answer-done, answer-at, reach-must, reach-done, reach-at}
 use Rattle.reading.proofs.Passed.{bind-ok, must-ok, done-ok, at-ok}
@@ -115,19 +115,19 @@ larger-of x e r = omega arith
 module _ (t : ℕ → Check ℕ) (s : List ℕ) where
   -- the checks from entry i on, from what those of entry i find
   module _ (i x : ℕ) where
-    pub order-failed : (w : Test) (e : ℕ) → run (t i) s ≡ failed w e → (m : ℕ) → explained (run (inOrder t (suc m) i x) s) ≡ Explanation.Failed w (i + 1)
+    pub order-failed : (w : Test) (e : ℕ) → run (t i) s ≡ failed w e → (m : ℕ) → explanationOf (run (inOrder t (suc m) i x) s) ≡ Explanation.Failed w (i + 1)
     unfolding inOrder
     order-failed w e q m = simp (run-bind, run-at, q)
 
-    pub order-short : (a b e : ℕ) → run (t i) s ≡ short (record { start = a; end = b }) e → b < 2 ^ 64 → (m : ℕ) → explained (run (inOrder t (suc m) i x) s) ≡ Explanation.Short a b (i + 1)
+    pub order-short : (a b e : ℕ) → run (t i) s ≡ short (record { start = a; end = b }) e → b < 2 ^ 64 → (m : ℕ) → explanationOf (run (inOrder t (suc m) i x) s) ≡ Explanation.Short a b (i + 1)
     unfolding inOrder
     order-short a b e q l m = simp (run-bind, run-at, q) (explained-short a b (i + 1) l)
 
-    pub order-next : (y z : ℕ) → run (t i) s ≡ passed y → z ≡ max x y → (m : ℕ) → explained (run (inOrder t (suc m) i x) s) ≡ explained (run (inOrder t m (i + 1) z) s)
+    pub order-next : (y z : ℕ) → run (t i) s ≡ passed y → z ≡ max x y → (m : ℕ) → explanationOf (run (inOrder t (suc m) i x) s) ≡ explanationOf (run (inOrder t m (i + 1) z) s)
     unfolding inOrder
     order-next y z q v m = simp (run-bind, run-at, q, v)
 
-    pub order-end : Explanation.Whole x ≡ explained (run (inOrder t 0 i x) s)
+    pub order-end : Explanation.Whole x ≡ explanationOf (run (inOrder t 0 i x) s)
     unfolding inOrder
     order-end = simp run-done
 
