@@ -15,18 +15,18 @@ use Rattle.gtc.proofs.lookup.Laws.{lookup-within}
 use Rattle.gtc.proofs.transformation.Laws.{reading-within}
 use Rattle.promises.specs.Demand1.{Ends}
 use Rattle.promises.specs.Demand3.{Holds}
-use Rattle.promises.specs.Gtc.{Call, judge, lookup, snp, snps, transformation, Answered, checks, span, gtc}
+use Rattle.promises.specs.Gtc.{Call, judge, lookup, snp, snps, transformation, call, gtc}
 use Rattle.promises.proofs.Holds.{holds}
 use Rattle.promises.proofs.Ends.{AtNone, Anywhere, Asked, ends, at-none, anywhere}
 
-fits : (c : Call) (s : List ℕ) (v : Answered c) → answer (checks c) s ≡ ok v → span c v .start + span c v .size ≤ length s
+fits : (c : Call) (s : List ℕ) (v : call c .Value) → answer (call c .checks) s ≡ ok v → call c .span v .start + call c .span v .size ≤ length s
 fits judge s v e = omega arith
 fits (lookup k) s v e = lookup-within k s v e
 fits (snp i) s v e = omega arith
 fits (snps i out) s v e = omega arith
 fits (transformation k) s v e = reading-within k s v e
 
-under : (c : Call) (s : List ℕ) (v : Extent) → answer judging s ≡ ok v → reach (checks c) s ≤ v .extent
+under : (c : Call) (s : List ℕ) (v : Extent) → answer judging s ≡ ok v → reach (call c .checks) s ≤ v .extent
 under judge s v w = omega (arith, Reach.extent s v w)
 under (lookup k) s v w = Reach.lookup-under k s v w
 under (snp i) s v w = Reach.snp-under i s v w
@@ -36,7 +36,7 @@ under (transformation k) s v w = Reach.transformation-under k s v w
 pub gtc-holds : Holds gtc
 gtc-holds = holds gtc (record { fits = fits; extent = Reach.extent; under = under })
 
-told : (c : Call) (s : List ℕ) → Refuses (Asked gtc c) (checks c) s
+told : (c : Call) (s : List ℕ) → Refuses (Asked gtc c) (call c .checks) s
 told judge s = anywhere gtc s (Refused.judging-refuses Anywhere s (λ _. refl) refl refl refl refl (λ _. refl) (λ _. refl) (λ _. refl) (λ _. refl))
 told (lookup k) s = at-none gtc (lookup k) s (Refused.lookup-refuses AtNone s (refl, refl) (refl, refl) (refl, refl) (refl, refl) (refl, refl) (refl, refl) (refl, refl) (refl, refl) (refl, refl) (refl, refl) k)
 told (snp i) s = at-none gtc (snp i) s (Refused.snp-refuses AtNone s (refl, refl) (refl, refl) (refl, refl) (refl, refl) (refl, refl) (refl, refl) (refl, refl) (refl, refl) (refl, refl) (refl, refl) (refl, refl) (refl, refl) i)

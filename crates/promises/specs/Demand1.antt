@@ -15,7 +15,7 @@ use Rattle.promises.specs.Writing.{Writing, Value, checks, lent, holdsAf
 
 -- A reading call shows an answer; or a refusal of the table, reported at 0 unless the call is judging, with the empty part at the file's start and the lent list as it was.
 pub data Ends (f : Format) (c : f .Call) (file : Part) : Type 0 where
-  answers : (v : f .Value c) → answer (f .checks c) (file .bytes) ≡ ok v → Ends f c file
+  answers : (v : f .call c .Value) → answer (f .call c .checks) (file .bytes) ≡ ok v → Ends f c file
   refuses : (n e : ℕ) → among n refusals ≡ true → ((c ≡ f .judging → ⊥) → e ≡ 0) → seen f c file ≡ refusal f c file n e → Ends f c file
 
 -- A writer's call answers; or it is refused with a number of the table, and its output holds what it held.

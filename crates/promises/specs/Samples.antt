@@ -65,12 +65,12 @@ pub record Sample : Type 1 where
   pub call : format .Call
   -- what the paper tells of an answer, and what that is here
   pub Told : Type 0
-  pub tells : format .Value call → Told
+  pub tells : format .call call .Value → Told
   pub answers : Answer Told
 
 -- a sample that tells the answer itself
-abbrev pub row : (f : Format) → List ℕ → (c : f .Call) → Answer (f .Value c) → Sample
-row f s c r = record { format = f; file = s; call = c; Told = f .Value c; tells = λ v. v; answers = r }
+abbrev pub row : (f : Format) → List ℕ → (c : f .Call) → Answer (f .call c .Value) → Sample
+row f s c r = record { format = f; file = s; call = c; Told = f .call c .Value; tells = λ v. v; answers = r }
 
 -- one that tells the letters of a SNP's genotype
 abbrev pub genotypeRow : List ℕ → ℕ → Answer (List ℕ) → Sample
@@ -118,4 +118,4 @@ table =
 -- every row holds
 abbrev pub AllHold : List Sample → Type 0
 AllHold [] = Unit {0}
-AllHold (r ∷ rs) = (mapAnswer (r .tells) (answer (r .format .checks (r .call)) (r .file)) ≡ r .answers) × AllHold rs
+AllHold (r ∷ rs) = (mapAnswer (r .tells) (answer (r .format .call (r .call) .checks) (r .file)) ≡ r .answers) × AllHold rs
