@@ -60,22 +60,22 @@ abif-holds = holds abif (record { fits = fits; extent = Reach.extent; under = un
 ten : (n : ℕ) → isNumberOf n 10 ≡ true → AtNone n 0
 ten n h = (up-to-ten n h, refl)
 
-file-told : (c : FileCall) (s : List ℕ) → Refuses AtNone (fileCall c .checks) s
-file-told (lookup a b) s = Refused.lookup-refuses AtNone ten s a b
-file-told (element a b i) s = Refused.element-refuses AtNone ten s (refl, refl) (refl, refl) a b i
-file-told (text a b) s = Refused.text-refuses AtNone ten s (refl, refl) a b
-file-told (list out) s = listing-refuses AtNone ten s (refl, refl) (length out)
+file-refuses : (c : FileCall) (s : List ℕ) → Refuses AtNone (fileCall c .checks) s
+file-refuses (lookup a b) s = Refused.lookup-refuses AtNone ten s a b
+file-refuses (element a b i) s = Refused.element-refuses AtNone ten s (refl, refl) (refl, refl) a b i
+file-refuses (text a b) s = Refused.text-refuses AtNone ten s (refl, refl) a b
+file-refuses (list out) s = listing-refuses AtNone ten s (refl, refl) (length out)
 
-told : (c : Call) (s : List ℕ) → Refuses (Asked abif c) (call c .checks) s
-told judge s = anywhere abif s (Refused.judging-refuses Anywhere (λ n h e. up-to-ten n h) s)
-told openFile s = at-none abif openFile s (Refused.opening-refuses AtNone ten s)
-told (entry i) s = at-none abif (entry i) s (entry-reading-refuses AtNone ten s i)
-told (wholeNumbers a b i out) s = at-none abif (wholeNumbers a b i out) s (Refused.numbers-refuses AtNone ten s (refl, refl) a b i (length out) (λ _. (refl, refl)))
-told (of c) s = at-none abif (of c) s (file-told c s)
-told (opened p n c) s = at-none abif (opened p n c) s (opened-refuses AtNone ten s p n (fileCall c .checks) (file-told c s))
+refuses : (c : Call) (s : List ℕ) → Refuses (Asked abif c) (call c .checks) s
+refuses judge s = anywhere abif s (Refused.judging-refuses Anywhere (λ n h e. up-to-ten n h) s)
+refuses openFile s = at-none abif openFile s (Refused.opening-refuses AtNone ten s)
+refuses (entry i) s = at-none abif (entry i) s (entry-reading-refuses AtNone ten s i)
+refuses (wholeNumbers a b i out) s = at-none abif (wholeNumbers a b i out) s (Refused.numbers-refuses AtNone ten s (refl, refl) a b i (length out) (λ _. (refl, refl)))
+refuses (of c) s = at-none abif (of c) s (file-refuses c s)
+refuses (opened p n c) s = at-none abif (opened p n c) s (opened-refuses AtNone ten s p n (fileCall c .checks) (file-refuses c s))
 
 pub abif-ends : (c : Call) (file : Part) → Ends abif c file
-abif-ends = ends abif told
+abif-ends = ends abif refuses
 
 pub lists-are-entries : ListsAreEntries
 lists-are-entries s room es w =

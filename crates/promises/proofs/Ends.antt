@@ -52,12 +52,12 @@ module _ (f : Format) where
   shows c file r = record { answers = r; part = handedBack file (mapAnswer (f .call c .span) r); list = filled (mapAnswer (f .call c .writes) r) (f .call c .lent) }
 
   pub ends : ((c : f .Call) (s : List ℕ) → Refuses (Asked c) (f .call c .checks) s) → (c : f .Call) (file : Part) → Ends f c file
-  ends told c file = go (answer (f .call c .checks) (file .bytes)) refl
+  ends all c file = go (answer (f .call c .checks) (file .bytes)) refl
     where
       go : (r : Answer (f .call c .Value)) → answer (f .call c .checks) (file .bytes) ≡ r → Ends f c file
       go (ok v) q = answers v q
       go (refused n e) q =
-          let p = told c (file .bytes) .told n e q in
+          let p = all c (file .bytes) .told n e q in
           refuses n e (p .0) (p .1) (ap (shows c file) q)
 
   -- a call that reports no entry, and judging

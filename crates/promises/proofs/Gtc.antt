@@ -36,12 +36,12 @@ under (transformation k) s v w = Reach.transformation-under k s v w
 pub gtc-holds : Holds gtc
 gtc-holds = holds gtc (record { fits = fits; extent = Reach.extent; under = under })
 
-told : (c : Call) (s : List ℕ) → Refuses (Asked gtc c) (call c .checks) s
-told judge s = anywhere gtc s (Refused.judging-refuses Anywhere s (λ _. refl) refl refl refl refl (λ _. refl) (λ _. refl) (λ _. refl) (λ _. refl))
-told (lookup k) s = at-none gtc (lookup k) s (Refused.lookup-refuses AtNone s (refl, refl) (refl, refl) (refl, refl) (refl, refl) (refl, refl) (refl, refl) (refl, refl) (refl, refl) (refl, refl) (refl, refl) k)
-told (snp i) s = at-none gtc (snp i) s (Refused.snp-refuses AtNone s (refl, refl) (refl, refl) (refl, refl) (refl, refl) (refl, refl) (refl, refl) (refl, refl) (refl, refl) (refl, refl) (refl, refl) (refl, refl) (refl, refl) i)
-told (snps i out) s = at-none gtc (snps i out) s (Refused.snps-refuses AtNone s (refl, refl) (refl, refl) (refl, refl) (refl, refl) (refl, refl) (refl, refl) (refl, refl) (refl, refl) (refl, refl) (refl, refl) (refl, refl) i (length out) (λ _. (refl, refl)))
-told (transformation k) s = at-none gtc (transformation k) s (Refused.transformation-refuses AtNone s (refl, refl) (refl, refl) (refl, refl) (refl, refl) (refl, refl) (refl, refl) (refl, refl) (refl, refl) (refl, refl) (refl, refl) (refl, refl) k)
+refuses : (c : Call) (s : List ℕ) → Refuses (Asked gtc c) (call c .checks) s
+refuses judge s = anywhere gtc s (Refused.judging-refuses Anywhere s (λ _. refl) refl refl refl refl (λ _. refl) (λ _. refl) (λ _. refl) (λ _. refl))
+refuses (lookup k) s = at-none gtc (lookup k) s (Refused.lookup-refuses AtNone s (refl, refl) (refl, refl) (refl, refl) (refl, refl) (refl, refl) (refl, refl) (refl, refl) (refl, refl) (refl, refl) (refl, refl) k)
+refuses (snp i) s = at-none gtc (snp i) s (Refused.snp-refuses AtNone s (refl, refl) (refl, refl) (refl, refl) (refl, refl) (refl, refl) (refl, refl) (refl, refl) (refl, refl) (refl, refl) (refl, refl) (refl, refl) (refl, refl) i)
+refuses (snps i out) s = at-none gtc (snps i out) s (Refused.snps-refuses AtNone s (refl, refl) (refl, refl) (refl, refl) (refl, refl) (refl, refl) (refl, refl) (refl, refl) (refl, refl) (refl, refl) (refl, refl) (refl, refl) i (length out) (λ _. (refl, refl)))
+refuses (transformation k) s = at-none gtc (transformation k) s (Refused.transformation-refuses AtNone s (refl, refl) (refl, refl) (refl, refl) (refl, refl) (refl, refl) (refl, refl) (refl, refl) (refl, refl) (refl, refl) (refl, refl) (refl, refl) k)
 
 pub gtc-ends : (c : Call) (file : Part) → Ends gtc c file
-gtc-ends = ends gtc told
+gtc-ends = ends gtc refuses

@@ -35,12 +35,12 @@ under (flowOfBase k i) s x w = Reach.flow-under k i s x w
 pub sff-holds : Holds sff
 sff-holds = holds sff (record { fits = fits; extent = Reach.extent; under = under })
 
-told : (c : Call) (s : List ℕ) → Refuses (Asked sff c) (call c .checks) s
-told judge s = anywhere sff s (Refused.judging-refuses Anywhere s (λ _. refl) (λ _. refl) refl refl refl)
-told fields s = at-none sff fields s (Refused.header-refuses AtNone s (refl, refl) (refl, refl) (refl, refl) (refl, refl))
-told (read k q) s = at-none sff (read k q) s (Refused.read-refuses AtNone s (refl, refl) (refl, refl) (refl, refl) (refl, refl) (refl, refl) (refl, refl) (refl, refl) k)
-told (reads i out) s = at-none sff (reads i out) s (Refused.reads-refuses AtNone s (refl, refl) (refl, refl) (refl, refl) (refl, refl) (refl, refl) (refl, refl) i (length out) (λ _. (refl, refl)))
-told (flowOfBase k i) s = at-none sff (flowOfBase k i) s (Refused.flow-refuses AtNone s (refl, refl) (refl, refl) (refl, refl) (refl, refl) (refl, refl) (refl, refl) (refl, refl) (refl, refl) k i)
+refuses : (c : Call) (s : List ℕ) → Refuses (Asked sff c) (call c .checks) s
+refuses judge s = anywhere sff s (Refused.judging-refuses Anywhere s (λ _. refl) (λ _. refl) refl refl refl)
+refuses fields s = at-none sff fields s (Refused.header-refuses AtNone s (refl, refl) (refl, refl) (refl, refl) (refl, refl))
+refuses (read k q) s = at-none sff (read k q) s (Refused.read-refuses AtNone s (refl, refl) (refl, refl) (refl, refl) (refl, refl) (refl, refl) (refl, refl) (refl, refl) k)
+refuses (reads i out) s = at-none sff (reads i out) s (Refused.reads-refuses AtNone s (refl, refl) (refl, refl) (refl, refl) (refl, refl) (refl, refl) (refl, refl) i (length out) (λ _. (refl, refl)))
+refuses (flowOfBase k i) s = at-none sff (flowOfBase k i) s (Refused.flow-refuses AtNone s (refl, refl) (refl, refl) (refl, refl) (refl, refl) (refl, refl) (refl, refl) (refl, refl) (refl, refl) k i)
 
 pub sff-ends : (c : Call) (file : Part) → Ends sff c file
-sff-ends = ends sff told
+sff-ends = ends sff refuses
