@@ -33,7 +33,8 @@ use Rattle.sff_write.specs.Read.{Given, headerWith, headerFor, readBytes, Fitti
 use Rattle.sff_write.specs.Write.{Piece, beginning, adding}
 use Rattle.sff_write.proofs.write.Laws.{begin-passed, add-passed, finish-passed}
 use Rattle.sff_write.proofs.Back.{header-length, headerBack, header-back, flow-letters-back, key-back, read-end, present-back, name-back, flows-back, steps-back, letters-back, qualities-back, among-letters}
-use Rattle.promises.specs.SffWritten.{Session, begun, added, bytesAt, ReadIs, ReadsBack, Lent, SffReadsBack}
+use Rattle.reading.specs.Part.{bytesAt}
+use Rattle.promises.specs.SffWritten.{Session, begun, added, ReadIs, HoldsReads, ReadsFitTypes, SffReadsBack}
 
 -- the letters from base m to base n stand in the file as they were given
 insert-same : (s letters : List ℕ) (p m n : ℕ) → 1 ≤ m → n ≤ length letters → ((i j : ℕ) → i + j ≤ length letters → take j (drop (p + i) s) ≡ take j (drop i letters)) → bytesAt s (insertFrom p m n) ≡ bytesAt letters (insertFrom 0 m n)
@@ -176,7 +177,7 @@ module _ (n : ℕ) (letters key : List ℕ) (g : ℕ → Given) where
       let l : length (upTo m) ≡ headerSize letters key + length (v .0) = ap length (v .1) ∙ length-append (upTo 0) (v .0) ∙ ap (λ (j : ℕ). j + length (v .0)) (header-length n letters key) in
       omega arith
 
-  module _ (lent : Lent n g) (fits : headerSize letters key ≤ 65535) (sound : (k : ℕ) → k < n → Sound k) where
+  module _ (lent : ReadsFitTypes n g) (fits : headerSize letters key ≤ 65535) (sound : (k : ℕ) → k < n → Sound k) where
     abbrev whole-file : List ℕ
     whole-file = upTo n
 
@@ -217,15 +218,15 @@ module _ (n : ℕ) (letters key : List ℕ) (g : ℕ → Given) where
         let e : k + 1 ≡ suc k = omega arith in
         (w .0, subst (λ (j : ℕ). answer (walk fields-back j 0 (front fields-back)) (upTo n) ≡ ok (w .0)) e (w .1), w .2)
 
-    kept : (k : ℕ) → k < n → ReadIs (upTo n) (k + 1) (g k)
-    kept k h =
+    each : (k : ℕ) → k < n → ReadIs (upTo n) (k + 1) (g k)
+    each k h =
         let v = walked k (omega arith) in
         let z = sound k h in
         let t = read-at k h in
         let q = number-passes fields-back (upTo n) refl header-is k (v .0) (length (upTo k)) h (v .1) (v .2) (positive k) in
         subst (λ (s : List ℕ). ReadIs s (k + 1) (g k)) (sym (t .1)) (read-is (upTo k) (t .0) (length letters) (k + 1) (g k) (z .fit) (z .clips) (z .steps) (lent .flows k) (subst (λ (s : List ℕ). answer (readReading (k + 1)) s ≡ answer (readFrom (length letters) (length (upTo k))) s) (t .1) q))
 
-    reads-back : ReadsBack n letters key g (upTo n)
+    reads-back : HoldsReads n letters key g (upTo n)
     unfolding upTo
     reads-back =
         let v = walked n (omega arith) in
@@ -234,13 +235,13 @@ module _ (n : ℕ) (letters key : List ℕ) (g : ℕ → Given) where
         record {
           whole = judging-passes fields-back (upTo n) refl header-is (v .0) (v .1) (rw (v .2) (positive n)) ∙ ap ok (v .2);
           fields = fields-back;
-          opened = header-is;
+          has-header = header-is;
           reads = refl;
           flows = refl;
           key-length = refl;
           flow-letters = ap (λ (s : List ℕ). take (length letters) (drop 31 s)) (t .1) ∙ flow-letters-back n letters key few fits (t .0);
           key-letters = ap (λ (s : List ℕ). take (length key) (drop (31 + length letters) s)) (t .1) ∙ key-back n letters key few fits (t .0);
-          kept = kept;
+          each = each;
           first = number-none fields-back (upTo n) refl header-is;
           last = λ k h. number-past fields-back (upTo n) refl header-is k h;
         }
@@ -252,4 +253,4 @@ sff-reads-back n letters key g m w o x lent s h =
     let e : m ≡ n = sym (a .count) ∙ b .0 ∙ a .stated in
     let f : upTo n letters key g n ≡ take x o = ap (upTo n letters key g) (sym e) ∙ sym (a .held) ∙ ap (λ (k : ℕ). take k o) (b .1) in
     let l : length (take x o) ≡ x = ap length (sym f) ∙ ap (λ (k : ℕ). length (upTo n letters key g k)) (sym e) ∙ sym (a .place) ∙ b .1 in
-    (e, l, subst (ReadsBack n letters key g) f (reads-back n letters key g lent (a .fits) (λ k l. a .sound k (omega arith))))
+    (e, l, subst (HoldsReads n letters key g) f (reads-back n letters key g lent (a .fits) (λ k l. a .sound k (omega arith))))

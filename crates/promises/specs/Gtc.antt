@@ -23,7 +23,8 @@ pub data Call : Type 0 where
   -- gtc::transformation::read_transformation, gtc::transformation::transformation_part, jt_gtc_transformation
   transformation : (number : ℕ) → Call
 
--- Lookup hands back the data, and a transformation its 52 bytes, so that the bits of its floats are seen too; the bulk call writes of each SNP what the single call answers.
+-- Lookup hands back the data, and a transformation its 52 bytes, so that the bits of its floats are seen too; the bulk call writes of each SNP what the
+-- single call answers.
 abbrev pub call : Call → ReadingCall
 call judge = plain judging
 call (lookup id) = handing (lookingUp id) dataSpan
