@@ -1,6 +1,6 @@
 // The call that writes an ABIF file.
 use crate::answers::Written;
-use crate::written::as_written;
+use crate::answers::as_written;
 use abif_write::write;
 ghost use mathlib.Core.Path.{_≡_};
 ghost use mathlib.Core.List.{[]};
@@ -10,6 +10,7 @@ ghost use Rattle.reading.specs.Lent.{filled};
 ghost use Rattle.abif_write.specs.Write.{writing};
 ghost use Rattle.capi.specs.Answers.{asWritten};
 
+// The file of the items that the lent records name, at the front of the output; record i of an item is element i of each of the first six slices.
 #[no_mangle]
 pub extern "C" fn jt_abif_write(
     names: &[u32],

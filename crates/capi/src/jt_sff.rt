@@ -4,7 +4,8 @@ use crate::answers::Listed;
 use crate::answers::SffHeader;
 use crate::answers::SffRead;
 use crate::answers::Verdict;
-use crate::listed::as_listed;
+use crate::answers::as_listed;
+use crate::answers::as_verdict;
 use sff::flow;
 use sff::header;
 use sff::judge;
@@ -17,32 +18,14 @@ ghost use Rattle.reading.specs.Check.{answer, mapAnswer};
 ghost use Rattle.reading.specs.Lent.{filled};
 ghost use Rattle.reading.specs.Bulk.{records};
 ghost use Rattle.sff.specs.Header.{header as headerReading, opened};
-ghost use Rattle.sff.specs.Judge.{judging, verdict};
+ghost use Rattle.sff.specs.Judge.{judging};
 ghost use Rattle.sff.specs.Lookup.{readReading, found};
 ghost use Rattle.sff.specs.Reads.{readsReading, readNumbers};
 ghost use Rattle.sff.specs.Flow.{flowReading, flow as flowAnswer};
 ghost use Rattle.capi.specs.Answers.{asVerdict, asListed};
-ghost use Rattle.capi.specs.Sff.{asHeader, toldRead, refusedRead, asRead, asFlow};
+ghost use Rattle.capi.specs.Sff.{asHeader, readStruct, refusedRead, asRead, asFlow};
 
-fn as_verdict(v: judge::Verdict) -> Verdict
-    ensures { λ r. ⌜ r ≡ asVerdict (verdict v) ⌝ }
-{
-    match v {
-        judge::Verdict::Whole(x) => Verdict {
-            refusal: 0,
-            entry: 0,
-            extent: x as u64,
-            unjudged: 0,
-        },
-        judge::Verdict::Refused { number, read } => Verdict {
-            refusal: number as u64,
-            entry: read as u64,
-            extent: 0,
-            unjudged: 0,
-        },
-    }
-}
-
+// Whether the bytes are a whole SFF file, with its extent.
 #[no_mangle]
 pub extern "C" fn jt_sff_judge(s: &[u8]) -> Verdict
     ensures { λ r. ⌜ r ≡ asVerdict (answer judging (now (s .entry))) ⌝ }
@@ -80,6 +63,7 @@ fn as_header(o: header::Opened) -> SffHeader
     }
 }
 
+// The fields of the common header.
 #[no_mangle]
 pub extern "C" fn jt_sff_header(s: &[u8]) -> SffHeader
     ensures { λ r. ⌜ r ≡ asHeader (answer headerReading (now (s .entry))) ⌝ }
@@ -87,8 +71,8 @@ pub extern "C" fn jt_sff_header(s: &[u8]) -> SffHeader
     as_header(header::read_fields(s))
 }
 
-fn told_read(r: lookup::Read) -> SffRead
-    ensures { λ t. ⌜ t ≡ toldRead r ⌝ }
+fn read_struct(r: lookup::Read) -> SffRead
+    ensures { λ t. ⌜ t ≡ readStruct r ⌝ }
 {
     SffRead {
         refusal: 0,
@@ -139,11 +123,12 @@ fn as_read(f: lookup::Found) -> SffRead
     ensures { λ r. ⌜ r ≡ asRead (found f) ⌝ }
 {
     match f {
-        lookup::Found::At(r) => told_read(r),
+        lookup::Found::At(r) => read_struct(r),
         lookup::Found::Refused(n) => refused_read(n),
     }
 }
 
+// Read k.
 #[no_mangle]
 pub extern "C" fn jt_sff_read(s: &[u8], k: u64) -> SffRead
     ensures { λ r. ⌜ r ≡ asRead (answer (readReading k) (now (s .entry))) ⌝ }
@@ -175,6 +160,7 @@ fn as_flow(f: flow::Flow) -> Flow
     }
 }
 
+// The flow of a base of read k.
 #[no_mangle]
 pub extern "C" fn jt_sff_flow_of_base(s: &[u8], k: u64, base: u64) -> Flow
     ensures { λ r. ⌜ r ≡ asFlow (answer (flowReading k (record { 0 = base })) (now (s .entry))) ⌝ }

@@ -1,7 +1,7 @@
 // The calls that write an SFF file. The state goes in and comes back; its `refusal` is not looked at.
 use crate::answers::SffWriter;
 use crate::answers::Written;
-use crate::written::as_written;
+use crate::answers::as_written;
 use sff_write::read::Clips;
 use sff_write::write;
 ghost use mathlib.Core.Path.{_≡_};
@@ -11,7 +11,7 @@ ghost use Rattle.reading.specs.Check.{answer, mapAnswer};
 ghost use Rattle.sff_write.specs.Read.{given};
 ghost use Rattle.sff_write.specs.Write.{behind, advanced, writtenAt, beginning, adding, finishing};
 ghost use Rattle.capi.specs.Answers.{asWritten};
-ghost use Rattle.capi.specs.SffWrite.{stateOf, toldWriter, asWriter, asAdded, clipsOf};
+ghost use Rattle.capi.specs.SffWrite.{stateOf, writerStruct, asWriter, asAdded, clipsOf};
 
 fn state_of(w: SffWriter) -> write::Writer
     ensures { λ r. ⌜ r ≡ stateOf w ⌝ }
@@ -24,8 +24,8 @@ fn state_of(w: SffWriter) -> write::Writer
     }
 }
 
-fn told_writer(w: write::Writer) -> SffWriter
-    ensures { λ r. ⌜ r ≡ toldWriter w ⌝ }
+fn writer_struct(w: write::Writer) -> SffWriter
+    ensures { λ r. ⌜ r ≡ writerStruct w ⌝ }
 {
     SffWriter {
         refusal: 0,
@@ -40,7 +40,7 @@ fn as_writer(a: write::Advanced) -> SffWriter
     ensures { λ r. ⌜ r ≡ asWriter (advanced a) ⌝ }
 {
     match a {
-        write::Advanced::To(w) => told_writer(w),
+        write::Advanced::To(w) => writer_struct(w),
         write::Advanced::Refused(n) => SffWriter {
             refusal: n as u64,
             reads: 0,
@@ -51,6 +51,7 @@ fn as_writer(a: write::Advanced) -> SffWriter
     }
 }
 
+// The header of a file of so many reads, at the front of the output.
 #[no_mangle]
 pub extern "C" fn jt_sff_begin(
     reads: u32,
@@ -69,7 +70,7 @@ fn as_added(w: SffWriter, a: write::Advanced) -> SffWriter
     ensures { λ r. ⌜ r ≡ asAdded w (advanced a) ⌝ }
 {
     match a {
-        write::Advanced::To(v) => told_writer(v),
+        write::Advanced::To(v) => writer_struct(v),
         write::Advanced::Refused(n) => SffWriter {
             refusal: n as u64,
             reads: w.reads,
@@ -80,6 +81,7 @@ fn as_added(w: SffWriter, a: write::Advanced) -> SffWriter
     }
 }
 
+// The next read, behind what is written.
 #[no_mangle]
 pub extern "C" fn jt_sff_add(
     w: SffWriter,
@@ -110,6 +112,7 @@ pub extern "C" fn jt_sff_add(
     )
 }
 
+// The length of the file, where as many reads are written as were stated.
 #[no_mangle]
 pub extern "C" fn jt_sff_finish(w: SffWriter) -> Written
     ensures { λ r. ⌜ r ≡ asWritten (answer (finishing (stateOf w)) []) ⌝ }

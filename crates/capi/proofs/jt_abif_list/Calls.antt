@@ -25,7 +25,7 @@ use Rattle.abif.proofs.numbers.Copied as S
 use Rattle.abif.proofs.numbers.Copied.Laws as S′
 use Rattle.capi.specs.declared.answers.Listed.{Listed}
 use Rattle.capi.specs.Answers.{asListed}
-use Rattle.capi.proofs.jt_abif.as_listed as made
+use Rattle.capi.proofs.answers.as_listed as made
 
 abbrev pub E : RattleType
 E = R.the-row

@@ -1,6 +1,6 @@
 use borrow.Author.Needs.{needs}
-use Rattle.capi.proofs.jt_gtc.told_snp.Statement.{statement}
-use Rattle.capi.proofs.jt_gtc.told_snp.Tie as tie
+use Rattle.capi.proofs.jt_gtc.snp_struct.Statement.{statement}
+use Rattle.capi.proofs.jt_gtc.snp_struct.Tie as tie
 
 cast-t3 : tie.Need-cast-t3
 cast-t3 c = search needs
@@ -35,8 +35,8 @@ cast-t12 c = search needs
 returns : tie.Need-returns
 returns c = rw (c .before .before .before .before .before .before .ploidy-of .ensures, c .before .before .before .before .before .b-alleles-of .ensures)
 
-pub told-snp-spec : {M : Type 1} → statement M
-told-snp-spec =
+pub snp-struct-spec : {M : Type 1} → statement M
+snp-struct-spec =
     tie.close
     (tie.spec
     cast-t3

@@ -1,6 +1,6 @@
 use borrow.Author.Needs.{needs}
-use Rattle.capi.proofs.written.as_written.Statement.{statement}
-use Rattle.capi.proofs.written.as_written.Tie as tie
+use Rattle.capi.proofs.answers.as_written.Statement.{statement}
+use Rattle.capi.proofs.answers.as_written.Tie as tie
 
 enum-known-a : tie.Need-enum-known-a
 enum-known-a c = search needs

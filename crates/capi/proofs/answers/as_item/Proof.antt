@@ -1,6 +1,6 @@
 use borrow.Author.Needs.{needs}
-use Rattle.capi.proofs.jt_abif.as_item.Statement.{statement}
-use Rattle.capi.proofs.jt_abif.as_item.Tie as tie
+use Rattle.capi.proofs.answers.as_item.Statement.{statement}
+use Rattle.capi.proofs.answers.as_item.Tie as tie
 
 enum-known-f : tie.Need-enum-known-f
 enum-known-f c = search needs

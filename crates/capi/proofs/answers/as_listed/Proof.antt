@@ -1,6 +1,6 @@
 use borrow.Author.Needs.{needs}
-use Rattle.capi.proofs.listed.as_listed.Statement.{statement}
-use Rattle.capi.proofs.listed.as_listed.Tie as tie
+use Rattle.capi.proofs.answers.as_listed.Statement.{statement}
+use Rattle.capi.proofs.answers.as_listed.Tie as tie
 
 enum-known-n : tie.Need-enum-known-n
 enum-known-n c = search needs

@@ -1,6 +1,6 @@
 use borrow.Author.Needs.{needs}
-use Rattle.capi.proofs.jt_abif.as_verdict.Statement.{statement}
-use Rattle.capi.proofs.jt_abif.as_verdict.Tie as tie
+use Rattle.capi.proofs.answers.as_verdict.Statement.{statement}
+use Rattle.capi.proofs.answers.as_verdict.Tie as tie
 
 enum-known-v : tie.Need-enum-known-v
 enum-known-v c = search needs
