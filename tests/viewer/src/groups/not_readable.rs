@@ -70,7 +70,7 @@ fn fill(scratch: &Scratch) {
     }
 }
 
-// The rest of the shelf is judged, and both are counted.
+// The rest of the folder is judged, and both are counted.
 fn closed_to_the_program(group: &mut Group, scratch: &Scratch) {
     let is_superuser = fs::read(scratch.path("b.sff")).is_ok();
     let before = if is_superuser { &AS_NOBODY[..] } else { &AS_IS };
