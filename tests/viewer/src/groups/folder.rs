@@ -18,18 +18,18 @@ use std::process::Command;
 const PIPE: &str = "a pipe";
 const FILES_FOR_THE_TERMINAL: usize = 400;
 
-pub fn shelf(group: &mut Group) {
+pub fn folder(group: &mut Group) {
     let scratch = Scratch::new();
     fill(&scratch);
     let folder = scratch.folder();
-    compare_shelf(group, folder, &["shelf"]);
-    compare_shelf(
+    compare_paths(group, folder, &["shelf"]);
+    compare_paths(
         group,
         folder,
         &["shelf/a", "alone.sff", "shelf/a/b", "alone.sff"],
     );
-    compare_shelf(group, folder, &["whole"]);
-    compare_shelf(group, folder, &["shelf/empty"]);
+    compare_paths(group, folder, &["whole"]);
+    compare_paths(group, folder, &["shelf/empty"]);
     with_a_pipe(group, folder);
     with_a_missing_folder(group, folder);
     on_a_terminal(group, &scratch);
@@ -151,7 +151,7 @@ impl Tally {
     }
 }
 
-fn compare_shelf(group: &mut Group, folder: &Path, arguments: &[&str]) -> Output {
+fn compare_paths(group: &mut Group, folder: &Path, arguments: &[&str]) -> Output {
     let tally = Tally::of(folder, arguments);
     let output = Program::plain().run_in(folder, arguments);
     group.input();
@@ -176,14 +176,14 @@ fn with_a_pipe(group: &mut Group, folder: &Path) {
     group.check(made.is_ok_and(|made| made.success()), &[], || {
         "no pipe".to_string()
     });
-    let output = compare_shelf(group, folder, &["shelf"]);
+    let output = compare_paths(group, folder, &["shelf"]);
     let complaint = output.stderr_text();
     let fits = complaint.starts_with("jtview: shelf/a/a pipe: ") && complaint.lines().count() == 1;
     group.check(fits, &[], || format!("complained {complaint:?}"));
 }
 
 fn with_a_missing_folder(group: &mut Group, folder: &Path) {
-    let output = compare_shelf(group, folder, &["whole", "no such folder"]);
+    let output = compare_paths(group, folder, &["whole", "no such folder"]);
     let complaint = output.stderr_text();
     group.check(
         complaint.starts_with("jtview: no such folder: "),

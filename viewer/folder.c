@@ -1,4 +1,4 @@
-#include "shelf.h"
+#include "folder.h"
 
 #include "memory.h"
 #include "words.h"
@@ -13,7 +13,8 @@
 
 enum { REFUSALS = 15 };
 
-struct shelf {
+/* How the files that were judged came out, and what is being walked. */
+struct tally {
     uint64_t whole;
     uint64_t unknown;
     uint64_t unreadable;
@@ -24,52 +25,52 @@ struct shelf {
     bool terminal;  /* stderr is one, so that a progress line can be shown */
 };
 
-static void show_progress(const struct shelf *shelf) {
-    if (shelf->terminal && shelf->in_folder) {
-        uint64_t files = shelf->whole + shelf->refused + shelf->unknown + shelf->unreadable;
-        fprintf(stderr, "%" PRIu64 " files, %" PRIu64 " not whole ...", files, files - shelf->whole);
+static void show_progress(const struct tally *tally) {
+    if (tally->terminal && tally->in_folder) {
+        uint64_t files = tally->whole + tally->refused + tally->unknown + tally->unreadable;
+        fprintf(stderr, "%" PRIu64 " files, %" PRIu64 " not whole ...", files, files - tally->whole);
         fflush(stderr);
     }
 }
 
-static void erase_progress(const struct shelf *shelf) {
-    if (shelf->terminal && shelf->in_folder) {
+static void erase_progress(const struct tally *tally) {
+    if (tally->terminal && tally->in_folder) {
         fputs("\r\033[K", stderr);
         fflush(stderr);
     }
 }
 
-static void report_unreadable(struct shelf *shelf, const char *path, const char *reason) {
-    erase_progress(shelf);
+static void report_unreadable(struct tally *tally, const char *path, const char *reason) {
+    erase_progress(tally);
     tell_failure(path, reason);
-    shelf->unreadable++;
-    show_progress(shelf);
+    tally->unreadable++;
+    show_progress(tally);
 }
 
-static void count(struct shelf *shelf, const struct judgement *judgement) {
+static void count(struct tally *tally, const struct judgement *judgement) {
     if (is_whole(judgement)) {
-        shelf->whole++;
+        tally->whole++;
     } else if (judgement->format == FORMAT_UNKNOWN) {
-        shelf->unknown++;
+        tally->unknown++;
     } else {
-        shelf->refused++;
-        shelf->by_number[judgement->verdict.refusal]++;
+        tally->refused++;
+        tally->by_number[judgement->verdict.refusal]++;
     }
 }
 
-static void judge_file(struct shelf *shelf, const char *path) {
+static void judge_file(struct tally *tally, const char *path) {
     struct file file;
     const char *reason = file_open(&file, path);
     if (reason != NULL) {
-        report_unreadable(shelf, path, reason);
+        report_unreadable(tally, path, reason);
         return;
     }
     struct judgement judgement = judge(&file);
-    count(shelf, &judgement);
-    erase_progress(shelf);
+    count(tally, &judgement);
+    erase_progress(tally);
     print_line(&file, &judgement);
     fflush(stdout);
-    show_progress(shelf);
+    show_progress(tally);
     file_close(&file);
 }
 
@@ -119,18 +120,18 @@ static struct names names_in(const char *path) {
     return names;
 }
 
-static void walk_folder(struct shelf *shelf, const char *path);
+static void walk_folder(struct tally *tally, const char *path);
 
 /* A link to a folder is passed over, so that no walk goes in a circle. */
-static void judge_entry(struct shelf *shelf, const char *path) {
+static void judge_entry(struct tally *tally, const char *path) {
     struct stat itself;
     struct stat target;
     if (stat(path, &target) != 0 || lstat(path, &itself) != 0) {
-        report_unreadable(shelf, path, strerror(errno));
+        report_unreadable(tally, path, strerror(errno));
     } else if (!S_ISDIR(target.st_mode)) {
-        judge_file(shelf, path);
+        judge_file(tally, path);
     } else if (!S_ISLNK(itself.st_mode)) {
-        walk_folder(shelf, path);
+        walk_folder(tally, path);
     }
 }
 
@@ -143,57 +144,57 @@ static char *path_in(const char *folder, const char *name) {
     return path;
 }
 
-static void walk_folder(struct shelf *shelf, const char *path) {
+static void walk_folder(struct tally *tally, const char *path) {
     struct names names = names_in(path);
     if (names.failure != NULL) {
-        report_unreadable(shelf, path, names.failure);
+        report_unreadable(tally, path, names.failure);
     }
     for (size_t i = 0; i < names.count; i++) {
         char *inside = path_in(path, names.list[i]);
-        judge_entry(shelf, inside);
+        judge_entry(tally, inside);
         free(inside);
         free(names.list[i]);
     }
     free(names.list);
 }
 
-static void print_summary(const struct shelf *shelf) {
-    uint64_t files = shelf->whole + shelf->refused + shelf->unknown + shelf->unreadable;
+static void print_summary(const struct tally *tally) {
+    uint64_t files = tally->whole + tally->refused + tally->unknown + tally->unreadable;
     printf("%" PRIu64 " files: %" PRIu64 " whole, %" PRIu64 " refused, %" PRIu64 " unknown, %" PRIu64 " not readable\n",
-           files, shelf->whole, shelf->refused, shelf->unknown, shelf->unreadable);
+           files, tally->whole, tally->refused, tally->unknown, tally->unreadable);
     for (uint64_t refusal = 1; refusal < REFUSALS; refusal++) {
-        if (shelf->by_number[refusal] > 0) {
-            uint64_t counted = shelf->by_number[refusal];
+        if (tally->by_number[refusal] > 0) {
+            uint64_t counted = tally->by_number[refusal];
             printf("  %" PRIu64 " %s refused %" PRIu64 ": %s\n", counted, counted == 1 ? "file" : "files", refusal,
                    refusal_words(refusal));
         }
     }
 }
 
-static void judge_path(struct shelf *shelf, const char *path) {
+static void judge_path(struct tally *tally, const char *path) {
     struct stat state;
     if (stat(path, &state) != 0 || !S_ISDIR(state.st_mode)) {
-        judge_file(shelf, path);
+        judge_file(tally, path);
         return;
     }
-    shelf->folders = true;
-    shelf->in_folder = true;
-    show_progress(shelf);
-    walk_folder(shelf, path);
-    erase_progress(shelf);
-    shelf->in_folder = false;
+    tally->folders = true;
+    tally->in_folder = true;
+    show_progress(tally);
+    walk_folder(tally, path);
+    erase_progress(tally);
+    tally->in_folder = false;
 }
 
 enum status judge_paths(char *const paths[], int count) {
-    struct shelf shelf = {.terminal = isatty(STDERR_FILENO)};
+    struct tally tally = {.terminal = isatty(STDERR_FILENO)};
     for (int i = 0; i < count; i++) {
-        judge_path(&shelf, paths[i]);
+        judge_path(&tally, paths[i]);
     }
-    if (shelf.folders) {
-        print_summary(&shelf);
+    if (tally.folders) {
+        print_summary(&tally);
     }
-    if (shelf.unreadable > 0) {
+    if (tally.unreadable > 0) {
         return STATUS_UNREADABLE;
     }
-    return shelf.refused + shelf.unknown > 0 ? STATUS_REFUSED : STATUS_WHOLE;
+    return tally.refused + tally.unknown > 0 ? STATUS_REFUSED : STATUS_WHOLE;
 }

@@ -1,6 +1,6 @@
 /* Files and folders, each file judged, with a line for each. */
-#ifndef VIEWER_SHELF_H
-#define VIEWER_SHELF_H
+#ifndef VIEWER_FOLDER_H
+#define VIEWER_FOLDER_H
 
 #include "format.h"
 
