@@ -1,10 +1,6 @@
 -- The refusals of GTC's reading calls. P is what holds of these, their numbers and their entries.
 use Prim.Native.Nat.{ℕ, _+_}
-use mathlib.Core.Path.{_≡_}
-use mathlib.Core.Bool.{false}
 use mathlib.Core.List.{List}
-use lib.Dec.{leb}
-use Rattle.reading.specs.Check.{holds}
 use Rattle.reading.proofs.Refused.{Refuses, refuses-done, refuses-must, refuses-need, refuses-bind}
 use Rattle.reading.proofs.Entries.{one-refuses, order-refuses}
 use Rattle.gtc.specs.declared.entry.Entry.{Entry}
@@ -14,21 +10,11 @@ use Rattle.gtc.specs.declared.item.Stored.{Stored}
 use Rattle.gtc.specs.declared.item.Stored.the-variants.{Value, Shaped}
 use Rattle.gtc.specs.declared.item.Listing.{Listing}
 use Rattle.gtc.specs.declared.item.Listing.the-variants.{Listed, Unlisted}
-use Rattle.gtc.specs.declared.snp.SnpArrays.{SnpArrays}
 use Rattle.gtc.specs.Table.{markCheck, countCheck, table, tableEnd}
 use Rattle.gtc.specs.Entry.{hasId, entryWith}
 use Rattle.gtc.specs.Item.{listingOf, stringEnd, scannerRest, scannerEnd, arrayCount, elementsOf, snpCheck, shapeCheck, shapedCheck, itemCheck}
 use Rattle.gtc.specs.Judge.{judgeAs, judgeEntry, judgeTable, judging}
 use Rattle.gtc.specs.Lookup.{storedAs, lookupListed, lookupIn, lookingUp}
-use Rattle.gtc.specs.Genotype.{decoding}
-use Rattle.gtc.specs.Snp.{callArrays, intensityArrays, snpArrays, SnpBytes, snpBytes, snpAt, snpOf, snpReading}
-use Rattle.gtc.specs.Snps.{snpsOf, snpsReading}
-use Rattle.gtc.specs.Transformation.{transformationOf, transformationReading}
-
-module _ (P : ℕ → ℕ → Type 0) (s : List ℕ) where
-  pub record-refuses : P 11 0 → (b : SnpBytes) (j : ℕ) → Refuses P (snpAt b j) s
-  unfolding snpAt decoding
-  record-refuses a b j = search (refuses-bind, refuses-must, refuses-done, a) depth 14
 
 module _ (P : ℕ → ℕ → Type 0) (s : List ℕ) (cut : P 1 0) where
   table-refuses : P 2 0 → P 3 0 → P 4 0 → P 5 0 → Refuses P table s
@@ -38,10 +24,6 @@ module _ (P : ℕ → ℕ → Type 0) (s : List ℕ) (cut : P 1 0) where
   string-refuses : (p : ℕ) → Refuses P (stringEnd p) s
   unfolding stringEnd
   string-refuses p = search (refuses-bind, refuses-need, refuses-done, cut) depth 14
-
-  pub bytes-refuses : (a : SnpArrays) → Refuses P (snpBytes a) s
-  unfolding snpBytes
-  bytes-refuses a = search (refuses-bind, refuses-need, refuses-done, cut) depth 14
 
   -- the checks of an item
   module _ (absent : P 7 0) (twice : P 8 0) (count : P 9 0) where
@@ -87,20 +69,3 @@ module _ (P : ℕ → ℕ → Type 0) (s : List ℕ) (cut : P 1 0) (mark : P 2 0
       refuses-bind P _ _ s (table-refuses P s cut mark version negative many) (λ t _.
       refuses-bind P _ _ s (stored-refuses (listingOf k)) (λ v _.
       refuses-bind P _ _ s (with-refuses P s cut absent twice count (t .upTo) (t .count) k) (λ d _. item-refuses P s cut absent twice count offset v _ _ d)))
-
-  pub arrays-refuses : Refuses P snpArrays s
-  unfolding snpArrays callArrays intensityArrays
-  arrays-refuses = search (refuses-bind, lookup-refuses, refuses-done) depth 14
-
-  module _ (none-such : P 12 0) where
-    pub snp-refuses : P 11 0 → (i : ℕ) → Refuses P (snpReading i) s
-    unfolding snpReading snpOf
-    snp-refuses contents i = search (refuses-bind, refuses-must, arrays-refuses, bytes-refuses, record-refuses, contents, cut, none-such) depth 14
-
-    pub snps-refuses : (first room : ℕ) → (leb 9 room ≡ false → P 13 0) → Refuses P (snpsReading first room) s
-    unfolding snpsReading snpsOf holds
-    snps-refuses first room full = search (refuses-bind, refuses-must, arrays-refuses, bytes-refuses, refuses-done, full, cut, none-such) depth 14
-
-    pub transformation-refuses : (k : ℕ) → Refuses P (transformationReading k) s
-    unfolding transformationReading transformationOf
-    transformation-refuses k = search (refuses-bind, refuses-must, refuses-need, lookup-refuses, refuses-done, cut, none-such) depth 14

@@ -1,0 +1,5 @@
+pub mod Genotype
+pub mod Snp
+pub mod Snps
+pub mod Transformation
+pub mod Normalise
