@@ -10,25 +10,25 @@ use Rattle.reading.specs.Entries.{inOrder}
 use Rattle.reading.proofs.Cut.{answer-same}
 use Rattle.reading.proofs.Steps.{reach-done, reach-must, reach-need}
 use Rattle.reading.proofs.Passed.{bind-ok, done-ok, ok-inj}
-use Rattle.reading.proofs.Reach.{reach-none, reach-under, reach-must-under, reach-done-under}
+use Rattle.reading.proofs.Reach.{reach-none, reach-under, reach-must-under}
 use Rattle.reading.proofs.Entries.{beyond, order-ends}
 use Rattle.gtc.specs.declared.entry.Entry.{Entry}
 use Rattle.gtc.specs.declared.item.Stored.{Stored}
 use Rattle.gtc.specs.declared.item.Listing.{Listing}
 use Rattle.gtc.specs.declared.item.Listing.the-variants.{Listed, Unlisted}
-use Rattle.gtc.specs.declared.item.ItemData.{ItemData}
-use Rattle.gtc.specs.Table.{Table, tableEnd, markCheck, countCheck, table}
-use Rattle.gtc.specs.Entry.{entryPlace, entryOf}
+use Rattle.reading.specs.declared.item.ItemData.{ItemData}
+use Rattle.gtc.specs.Table.{Table, tableEnd, identifierCheck, countCheck, table, entryPlace}
+use Rattle.gtc.specs.Entry.{entryOf}
 use Rattle.gtc.specs.Item.{listingOf, itemCheck, itemEnd}
 use Rattle.gtc.specs.Judge.{Extent, judgeAs, judgeEntry, judgeTable, judging}
-use Rattle.gtc.specs.Lookup.{storedAs, lookupListed, lookupIn, lookingUp}
+use Rattle.gtc.specs.Lookup.{storedOf, lookupListed, lookupIn, lookingUp}
 use Rattle.gtc.proofs.entry.Laws.{with-found, with-none-needed, entry-place}
 use Rattle.gtc.proofs.item.Laws.{item-end}
-use Rattle.gtc.proofs.lookup.Laws.{stored-ok, lookup-within}
+use Rattle.gtc.proofs.lookup.Laws.{listed-ok, lookup-within}
 
-mark-none : (a b : ℕ) (s : List ℕ) → reach (markCheck a b) s ≡ 0
-unfolding markCheck
-mark-none a b s = search (reach-none, reach-must) depth 12
+identifier-none : (a b : ℕ) (s : List ℕ) → reach (identifierCheck a b) s ≡ 0
+unfolding identifierCheck
+identifier-none a b s = search (reach-none, reach-must) depth 12
 
 count-none : (n : ℕ) (s : List ℕ) → reach (countCheck n) s ≡ 0
 unfolding countCheck
@@ -42,7 +42,7 @@ table-reach s t w =
     let d = bind-ok _ _ s t (c .2) in
     let e = bind-ok _ _ s t (d .2) in
     let g = done-ok _ t s (e .2) in
-    simp (b .3, c .3, d .3, e .3, mark-none, count-none, reach-need, reach-done, ← g) (omega arith)
+    simp (b .3, c .3, d .3, e .3, identifier-none, count-none, reach-need, reach-done, ← g) (omega arith)
 
 -- the checks of an entry whose id is listed need no more than x bytes
 abbrev Within : List ℕ → ℕ → List ℕ → ℕ → Entry → Type 0
@@ -90,11 +90,6 @@ whole s v w =
 pub extent : (s : List ℕ) (v : Extent) → answer judging s ≡ ok v → reach judging s ≡ v .extent
 extent s v w = whole s v w .2
 
-stored-under : (x : ℕ) (l : Listing) (s : List ℕ) → reach (storedAs l) s ≤ x
-unfolding storedAs
-stored-under x (Listed v) s = reach-done-under x _ s
-stored-under x Unlisted s = reach-under x _ _ s (reach-must-under x _ _ _ s) (λ _ _. reach-done-under x _ s)
-
 pub lookup-under : (k : ℕ) (s : List ℕ) (v : Extent) → answer judging s ≡ ok v → reach (lookingUp k) s ≤ v .extent
 unfolding lookingUp lookupIn lookupListed
 lookup-under k s v w =
@@ -103,10 +98,10 @@ lookup-under k s v w =
     reach-under x _ _ s (omega (arith, table-reach s (a .0) (a .1))) (λ t e.
     let q : a .0 ≡ t = ok-inj (sym (a .1) ∙ e) in
     subst (λ (t : Table). reach (lookupIn (t .upTo) (t .count) k) s ≤ x) q
-    (reach-under x _ _ s (stored-under x (listingOf k) s) (λ u l.
+    (reach-under x _ _ s (reach-must-under x _ _ _ s) (λ u l.
     reach-under x _ _ s (rw (with-none-needed s (a .0 .upTo) (a .0 .count) k) (omega arith)) (λ d f.
     let p = with-found s (a .0 .upTo) (a .0 .count) k d f in
-    subst (Within (a .0 .upTo) (a .0 .count) s x) (sym (p .2)) (a .4 (p .0) (p .1)) u (ap listingOf (p .3) ∙ stored-ok (listingOf k) s u l)))))
+    subst (Within (a .0 .upTo) (a .0 .count) s x) (sym (p .2)) (a .4 (p .0) (p .1)) (storedOf (listingOf k)) (ap listingOf (p .3) ∙ listed-ok (listingOf k) s u l)))))
 
 -- the data that lookup finds lie within the extent
 pub found-under : (k : ℕ) (s : List ℕ) (v : Extent) → answer judging s ≡ ok v → (q : ItemData) → answer (lookingUp k) s ≡ ok q → q .start + q .size ≤ v .extent

@@ -3,3 +3,4 @@ pub mod Entry
 pub mod Item
 pub mod Judge
 pub mod Lookup
+pub mod Answers

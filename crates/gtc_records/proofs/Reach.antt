@@ -5,15 +5,16 @@ use mathlib.Core.List.{List}
 use Rattle.reading.specs.Check.{ok, answer}
 use Rattle.reading.proofs.Needed.{reach}
 use Rattle.reading.proofs.Reach.{reach-under, reach-must-under, reach-need-under, reach-done-under}
-use Rattle.gtc.specs.declared.item.ItemData.{ItemData}
+use Rattle.reading.specs.declared.item.ItemData.{ItemData}
 use Rattle.gtc_records.specs.declared.snp.SnpArrays.{SnpArrays}
 use Rattle.gtc.specs.Judge.{Extent, judging}
 use Rattle.gtc.specs.Lookup.{lookingUp}
 use Rattle.gtc_records.specs.Genotype.{decoding}
-use Rattle.gtc_records.specs.Snp.{callArrays, intensityArrays, snpArrays, elements, SnpBytes, snpBytes, snpAt, snpOf, snpReading}
+use Rattle.gtc_records.specs.Snp.{callArrays, intensityArrays, snpArrays, elementBytes, SnpBytes, snpBytes, snpAt, snpOf, snpReading}
 use Rattle.gtc_records.specs.Snps.{snpsOf, snpsReading}
 use Rattle.gtc_records.specs.Transformation.{transformationOf, transformationReading}
 use Rattle.gtc_records.proofs.snp.Laws.{looked}
+use Rattle.gtc.specs.Item.{rawXId, rawYId, genotypesId, baseCallsId, genotypeScoresId, normalizationTransformationsId}
 use Rattle.gtc.proofs.Reach.{lookup-under, found-under}
 
 -- a call that looks up the SNPs' arrays, then reads their elements
@@ -22,16 +23,16 @@ unfolding snpArrays callArrays intensityArrays
 arrays-under s v w =
     let x = v .extent in
     reach-under x _ _ s
-    (reach-under x _ _ s (lookup-under 1002 s v w) (λ _ _.
-    reach-under x _ _ s (lookup-under 1003 s v w) (λ _ _.
-    reach-under x _ _ s (lookup-under 1004 s v w) (λ _ _. reach-done-under x _ s))))
+    (reach-under x _ _ s (lookup-under genotypesId s v w) (λ _ _.
+    reach-under x _ _ s (lookup-under baseCallsId s v w) (λ _ _.
+    reach-under x _ _ s (lookup-under genotypeScoresId s v w) (λ _ _. reach-done-under x _ s))))
     (λ _ _.
     reach-under x _ _ s
-    (reach-under x _ _ s (lookup-under 1000 s v w) (λ _ _.
-    reach-under x _ _ s (lookup-under 1001 s v w) (λ _ _. reach-done-under x _ s)))
+    (reach-under x _ _ s (lookup-under rawXId s v w) (λ _ _.
+    reach-under x _ _ s (lookup-under rawYId s v w) (λ _ _. reach-done-under x _ s)))
     (λ _ _. reach-done-under x _ s))
 
-elements-under : (k : ℕ) (s : List ℕ) (v : Extent) → answer judging s ≡ ok v → (q : ItemData) → answer (lookingUp k) s ≡ ok q → reach (elements q) s ≤ v .extent
+elements-under : (k : ℕ) (s : List ℕ) (v : Extent) → answer judging s ≡ ok v → (q : ItemData) → answer (lookingUp k) s ≡ ok q → reach (elementBytes q) s ≤ v .extent
 elements-under k s v w q e = reach-under _ _ _ s (reach-need-under _ _ _ s (found-under k s v w q e)) (λ _ _. reach-done-under _ _ s)
 
 bytes-under : (a : SnpArrays) (s : List ℕ) (v : Extent) → answer judging s ≡ ok v → answer snpArrays s ≡ ok a → reach (snpBytes a) s ≤ v .extent
@@ -39,11 +40,11 @@ unfolding snpBytes
 bytes-under a s v w e =
     let x = v .extent in
     let l = looked s a e in
-    reach-under x _ _ s (elements-under 1002 s v w _ (l .genotypes)) (λ _ _.
-    reach-under x _ _ s (elements-under 1003 s v w _ (l .baseCalls)) (λ _ _.
-    reach-under x _ _ s (elements-under 1004 s v w _ (l .scores)) (λ _ _.
-    reach-under x _ _ s (elements-under 1000 s v w _ (l .x)) (λ _ _.
-    reach-under x _ _ s (elements-under 1001 s v w _ (l .y)) (λ _ _. reach-done-under x _ s)))))
+    reach-under x _ _ s (elements-under genotypesId s v w _ (l .genotypes)) (λ _ _.
+    reach-under x _ _ s (elements-under baseCallsId s v w _ (l .baseCalls)) (λ _ _.
+    reach-under x _ _ s (elements-under genotypeScoresId s v w _ (l .scores)) (λ _ _.
+    reach-under x _ _ s (elements-under rawXId s v w _ (l .x)) (λ _ _.
+    reach-under x _ _ s (elements-under rawYId s v w _ (l .y)) (λ _ _. reach-done-under x _ s)))))
 
 record-under : (x : ℕ) (b : SnpBytes) (j : ℕ) (s : List ℕ) → reach (snpAt b j) s ≤ x
 unfolding snpAt decoding
@@ -73,6 +74,6 @@ pub transformation-under : (k : ℕ) (s : List ℕ) (v : Extent) → answer judg
 unfolding transformationReading transformationOf
 transformation-under k s v w =
     let x = v .extent in
-    reach-under x _ _ s (lookup-under 400 s v w) (λ q e.
+    reach-under x _ _ s (lookup-under normalizationTransformationsId s v w) (λ q e.
     reach-under x _ _ s (reach-must-under x _ _ _ s) (λ _ _.
-    reach-under x _ _ s (reach-need-under x _ _ s (found-under 400 s v w q e)) (λ _ _. reach-done-under x _ s)))
+    reach-under x _ _ s (reach-need-under x _ _ s (found-under normalizationTransformationsId s v w q e)) (λ _ _. reach-done-under x _ s)))

@@ -4,11 +4,9 @@ use mathlib.Core.List.{List, [], _∷_, _++_}
 use lib.ListN.{replicate}
 use lib.Dec.{leb, eqb}
 use Rattle.reading.specs.Choice.{pick}
-use Rattle.reading.specs.Check.{Check, Answer, ok, refused, done, provided, _>>=_, _>>_}
+use Rattle.reading.specs.Check.{Check, done, provided, _>>=_, _>>_}
 use Rattle.gtc_records.specs.declared.genotype.Genotype.{Genotype}
 use Rattle.gtc_records.specs.declared.genotype.Genotype.the-variants.{NoCall, Null, Alleles}
-use Rattle.gtc_records.specs.declared.genotype.Decoded.{Decoded}
-use Rattle.gtc_records.specs.declared.genotype.Decoded.the-variants.{Is, Refused}
 
 -- the code of p letters of which b are B, for p from 3 to 8
 abbrev pub codeOf : ℕ → ℕ → ℕ
@@ -50,13 +48,11 @@ letters NoCall = 0x4e ∷ 0x43 ∷ []
 letters Null = 0x4e ∷ 0x55 ∷ 0x4c ∷ 0x4c ∷ []
 letters (Alleles p b) = replicate (p - b) 0x41 ++ replicate b 0x42
 
+abbrev pub lastCode : ℕ
+lastCode = 45
+
 -- over 45 is 11
 unfoldable pub decoding : ℕ → Check Genotype
 decoding code = do
-  provided (leb code 45) 11
+  provided (leb code lastCode) 11
   done (meaning code)
-
--- the answer of document 01 that each case stands for
-abbrev pub decoded : Decoded → Answer Genotype
-decoded (Is g) = ok g
-decoded (Refused n) = refused n 0

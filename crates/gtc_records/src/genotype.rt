@@ -6,7 +6,10 @@ ghost use lib.Dec.{leb};
 ghost use Rattle.reading.specs.Choice.{pick};
 ghost use Rattle.reading.specs.Check.{answer};
 ghost use Rattle.gtc_records.specs.declared.genotype.Genotype.the-variants.{Alleles};
-ghost use Rattle.gtc_records.specs.Genotype.{lettersFrom, meaning, decoding, decoded, ploidy, bAlleles};
+ghost use Rattle.gtc_records.specs.Genotype.{lettersFrom, lastCode, meaning, decoding, ploidy, bAlleles};
+ghost use Rattle.gtc_records.specs.Answers.{answerOfDecoded};
+
+pub(crate) const LAST_CODE: u8 = 45;
 
 // A genotype: not called (NC), null, or so many letters of which so many are B, the others A.
 pub enum Genotype {
@@ -33,7 +36,7 @@ fn reaches(code: u8, least: u8) -> u8
 
 // The letters of a code from 7 to 45: three, and one more from the first code of each length on.
 fn letters_of(code: u8) -> Genotype
-    requires { ⌜ (7 ≤ code) × (code ≤ 45) ⌝ }
+    requires { ⌜ (7 ≤ code) × (code ≤ lastCode) ⌝ }
     ensures { λ r. ⌜ r ≡ lettersFrom code 3 5 ⌝ }
 {
     let p = 3
@@ -45,14 +48,16 @@ fn letters_of(code: u8) -> Genotype
     letters(p, code - (p * (p + 1) / 2 + 1))
 }
 
+// So many letters, of which so many are B.
 fn letters(ploidy: u8, b_alleles: u8) -> Genotype
     ensures { λ r. ⌜ r ≡ Alleles ploidy «b_alleles» ⌝ }
 {
     Genotype::Alleles { ploidy, b_alleles }
 }
 
+// What a code up to 45 means.
 pub(crate) fn meaning_of(code: u8) -> Genotype
-    requires { ⌜ code ≤ 45 ⌝ }
+    requires { ⌜ code ≤ lastCode ⌝ }
     ensures { λ r. ⌜ r ≡ meaning code ⌝ }
 {
     if code == 0 {
@@ -72,9 +77,9 @@ pub(crate) fn meaning_of(code: u8) -> Genotype
 
 // The genotype of a code.
 pub fn genotype_of(code: u8) -> Decoded
-    ensures { λ r. ⌜ ((l : List ℕ) → decoded r ≡ answer (decoding code) l) ⌝ }
+    ensures { λ r. ⌜ ((l : List ℕ) → answerOfDecoded r ≡ answer (decoding code) l) ⌝ }
 {
-    if 45 < code {
+    if LAST_CODE < code {
         return Decoded::Refused(11);
     }
     Decoded::Is(meaning_of(code))

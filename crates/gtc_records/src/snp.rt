@@ -1,10 +1,16 @@
 // The record of one SNP.
 use crate::genotype::Genotype;
+use crate::genotype::LAST_CODE;
 use crate::genotype::meaning_of;
-use gtc::item::ItemData;
-use gtc::lookup::Found;
+use gtc::item::BASE_CALLS_ID;
+use gtc::item::GENOTYPE_SCORES_ID;
+use gtc::item::GENOTYPES_ID;
+use gtc::item::RAW_X_ID;
+use gtc::item::RAW_Y_ID;
 use gtc::lookup::lookup;
 use reading::float::single;
+use reading::item::Found;
+use reading::item::ItemData;
 use reading::number::byte;
 use reading::number::le16;
 use reading::number::le32;
@@ -14,7 +20,12 @@ ghost use Prim.Native.Nat.{ℕ, _+_, _≤_};
 ghost use lib.ListN.{length};
 ghost use Rattle.reading.specs.Number.{le};
 ghost use Rattle.reading.specs.Check.{answer};
-ghost use Rattle.gtc_records.specs.Snp.{callArrays, intensityArrays, snpArrays, isBaseCall, elementsIn, snpAt, snpOf, snpReading, callsFound, intensitiesFound, arraysFound, snpRead, Present, Sized, Elements};
+ghost use Rattle.reading.specs.Part.{bytesAt};
+ghost use Rattle.reading.specs.Item.{dataSpan};
+ghost use Rattle.gtc.specs.Item.{itemEnd};
+ghost use Rattle.gtc_records.specs.Snp.{callArrays, intensityArrays, snpArrays, snpBytesOf, isBaseCall, snpAt, snpOf, snpReading};
+ghost use Rattle.gtc_records.specs.Answers.{answerOfCalls, answerOfIntensities, answerOfArraysFound, answerOfSnpRead};
+ghost use Rattle.gtc_records.specs.Private.{ArraysPresent, ArraysSized, ElementsPresent};
 
 // A SNP's record: the genotype's code and meaning, the two letters of the base call, the score with its bits, and the intensities.
 pub struct Snp {
@@ -55,19 +66,20 @@ pub(crate) struct SnpArrays {
     pub y: ItemData,
 }
 
+// The five arrays, or the refusal.
 pub(crate) enum ArraysFound {
     At(SnpArrays),
     Refused(u8),
 }
 
 fn call_arrays(s: &[u8]) -> Calls
-    ensures { λ r. ⌜ callsFound r ≡ answer callArrays (now (s .entry)) ⌝ }
+    ensures { λ r. ⌜ answerOfCalls r ≡ answer callArrays (now (s .entry)) ⌝ }
 {
-    match lookup(s, 1002) {
+    match lookup(s, GENOTYPES_ID) {
         Found::Refused(n) => Calls::Refused(n),
-        Found::Data(g) => match lookup(s, 1003) {
+        Found::Data(g) => match lookup(s, BASE_CALLS_ID) {
             Found::Refused(n) => Calls::Refused(n),
-            Found::Data(b) => match lookup(s, 1004) {
+            Found::Data(b) => match lookup(s, GENOTYPE_SCORES_ID) {
                 Found::Refused(n) => Calls::Refused(n),
                 Found::Data(f) => Calls::At(g, b, f),
             },
@@ -76,11 +88,11 @@ fn call_arrays(s: &[u8]) -> Calls
 }
 
 fn intensity_arrays(s: &[u8]) -> Intensities
-    ensures { λ r. ⌜ intensitiesFound r ≡ answer intensityArrays (now (s .entry)) ⌝ }
+    ensures { λ r. ⌜ answerOfIntensities r ≡ answer intensityArrays (now (s .entry)) ⌝ }
 {
-    match lookup(s, 1000) {
+    match lookup(s, RAW_X_ID) {
         Found::Refused(n) => Intensities::Refused(n),
-        Found::Data(x) => match lookup(s, 1001) {
+        Found::Data(x) => match lookup(s, RAW_Y_ID) {
             Found::Refused(n) => Intensities::Refused(n),
             Found::Data(y) => Intensities::At(x, y),
         },
@@ -89,7 +101,7 @@ fn intensity_arrays(s: &[u8]) -> Intensities
 
 // The five arrays, looked up in the order genotype, base call, score, X, Y.
 pub(crate) fn snp_arrays(s: &[u8]) -> ArraysFound
-    ensures { λ r. ⌜ arraysFound r ≡ answer snpArrays (now (s .entry)) ⌝ }
+    ensures { λ r. ⌜ answerOfArraysFound r ≡ answer snpArrays (now (s .entry)) ⌝ }
 {
     match call_arrays(s) {
         Calls::Refused(n) => ArraysFound::Refused(n),
@@ -122,8 +134,8 @@ fn is_base_call(v: u8) -> bool
 
 // An array's elements.
 pub(crate) fn elements(s: &[u8], q: ItemData) -> &[u8]
-    requires { ⌜ q .start + q .size ≤ length (now s) ⌝ }
-    ensures { λ r. ⌜ now r ≡ elementsIn (now (s .entry)) q ⌝ }
+    requires { ⌜ itemEnd q ≤ length (now s) ⌝ }
+    ensures { λ r. ⌜ now r ≡ bytesAt (now (s .entry)) (dataSpan q) ⌝ }
 {
     let end = q.start + q.size;
     let start = q.start;
@@ -157,11 +169,12 @@ fn long_at(l: &[u8], p: usize) -> u32
 
 // The record of SNP j, counted from 0, in the elements of the five arrays.
 pub(crate) fn snp_at(g: &[u8], b: &[u8], f: &[u8], x: &[u8], y: &[u8], j: usize) -> SnpRead
-    requires { ⌜ Elements (record { genotypes = now g; baseCalls = now b; scores = now f; x = now x; y = now y }) (j + 1) ⌝ }
-    ensures { λ r. ⌜ ((l : List ℕ) → snpRead r ≡ answer (snpAt (record { genotypes = now (g .entry); baseCalls = now (b .entry); scores = now (f .entry); x = now (x .entry); y = now (y .entry) }) j) l) ⌝ }
+    requires { ⌜ ElementsPresent (snpBytesOf (now g) (now b) (now f) (now x) (now y)) (j + 1) ⌝ }
+    ensures { λ r. ⌜ ((l : List ℕ) → answerOfSnpRead r ≡ answer
+        (snpAt (snpBytesOf (now (g .entry)) (now (b .entry)) (now (f .entry)) (now (x .entry)) (now (y .entry))) j) l) ⌝ }
 {
     let code = byte_at(g, j);
-    if 45 < code {
+    if LAST_CODE < code {
         return SnpRead::Refused(11);
     }
     let call_1 = byte_at(b, 2 * j);
@@ -187,8 +200,8 @@ pub(crate) fn snp_at(g: &[u8], b: &[u8], f: &[u8], x: &[u8], y: &[u8], j: usize)
 }
 
 fn snp_of(s: &[u8], a: SnpArrays, index: u64) -> SnpRead
-    requires { ⌜ Present (now s) a × Sized a ⌝ }
-    ensures { λ r. ⌜ snpRead r ≡ answer (snpOf a index) (now (s .entry)) ⌝ }
+    requires { ⌜ ArraysPresent (now s) a × ArraysSized a ⌝ }
+    ensures { λ r. ⌜ answerOfSnpRead r ≡ answer (snpOf a index) (now (s .entry)) ⌝ }
 {
     let n = a.genotypes.count;
     if index < 1 {
@@ -207,7 +220,7 @@ fn snp_of(s: &[u8], a: SnpArrays, index: u64) -> SnpRead
 
 // The record of SNP number `index`, from one.
 pub fn read_snp(s: &[u8], index: u64) -> SnpRead
-    ensures { λ r. ⌜ snpRead r ≡ answer (snpReading index) (now (s .entry)) ⌝ }
+    ensures { λ r. ⌜ answerOfSnpRead r ≡ answer (snpReading index) (now (s .entry)) ⌝ }
 {
     match snp_arrays(s) {
         ArraysFound::Refused(n) => SnpRead::Refused(n),

@@ -18,15 +18,20 @@ ghost use lib.ListN.{length, drop};
 ghost use lib.Seq.{sets};
 ghost use Rattle.reading.specs.Check.{ok, refused, answer, mapAnswer};
 ghost use Rattle.reading.specs.Lent.{filled};
-ghost use Rattle.reading.specs.Bulk.{recordOf, records};
+ghost use Rattle.reading.specs.Bulk.{recordOf};
 ghost use Rattle.reading.specs.Answers.{answerOfCopied};
-ghost use Rattle.gtc_records.specs.Snp.{Present, Sized, Elements, snpRead};
-ghost use Rattle.gtc_records.specs.Snps.{snpsAt, snpNumbers, snpsOf, snpsReading};
+ghost use Rattle.gtc_records.specs.Snp.{snpBytesOf};
+ghost use Rattle.gtc_records.specs.Snps.{snpWidth, snpsAt, snpNumbers, snpRecords, snpsOf, snpsReading};
+ghost use Rattle.gtc_records.specs.Answers.{answerOfSnpRead};
+ghost use Rattle.gtc_records.specs.Private.{ArraysPresent, ArraysSized, ElementsPresent};
+
+// A SNP's record in the output: the refusal's number, or 0, and eight numbers.
+const SNP_WIDTH: usize = 9;
 
 // The record of a SNP that is refused: the refusal's number and eight zeros, from place p on.
 fn put_refused(out: &mut [u64], p: usize, n: u8)
-    requires { ⌜ p + 9 ≤ length (now out) ⌝ }
-    ensures { λ _. ⌜ now (out .exit) ≡ sets (now (out .entry)) p (recordOf 9 snpNumbers (refused n 0)) ⌝ }
+    requires { ⌜ p + snpWidth ≤ length (now out) ⌝ }
+    ensures { λ _. ⌜ now (out .exit) ≡ sets (now (out .entry)) p (recordOf snpWidth snpNumbers (refused n 0)) ⌝ }
 {
     out[p] = n as u64;
     put_four(out, p + 1, 0, 0, 0, 0);
@@ -35,8 +40,8 @@ fn put_refused(out: &mut [u64], p: usize, n: u8)
 
 // The record of a SNP: 0 and its eight numbers, from place p on.
 fn put_numbers(out: &mut [u64], p: usize, r: Snp)
-    requires { ⌜ p + 9 ≤ length (now out) ⌝ }
-    ensures { λ _. ⌜ now (out .exit) ≡ sets (now (out .entry)) p (recordOf 9 snpNumbers (ok r)) ⌝ }
+    requires { ⌜ p + snpWidth ≤ length (now out) ⌝ }
+    ensures { λ _. ⌜ now (out .exit) ≡ sets (now (out .entry)) p (recordOf snpWidth snpNumbers (ok r)) ⌝ }
 {
     let g = r.genotype;
     out[p] = 0;
@@ -58,9 +63,10 @@ fn put_numbers(out: &mut [u64], p: usize, r: Snp)
     );
 }
 
+// The record of a SNP that is answered or refused so, from place p on.
 fn put_record(out: &mut [u64], p: usize, r: SnpRead)
-    requires { ⌜ p + 9 ≤ length (now out) ⌝ }
-    ensures { λ _. ⌜ now (out .exit) ≡ sets (now (out .entry)) p (recordOf 9 snpNumbers (snpRead r)) ⌝ }
+    requires { ⌜ p + snpWidth ≤ length (now out) ⌝ }
+    ensures { λ _. ⌜ now (out .exit) ≡ sets (now (out .entry)) p (recordOf snpWidth snpNumbers (answerOfSnpRead r)) ⌝ }
 {
     match r {
         SnpRead::Refused(n) => put_refused(out, p, n),
@@ -70,23 +76,27 @@ fn put_record(out: &mut [u64], p: usize, r: SnpRead)
 
 // The records of n SNPs from SNP j on, counted from 0, at the output's front.
 fn put_snps(g: &[u8], b: &[u8], f: &[u8], x: &[u8], y: &[u8], j: usize, n: usize, out: &mut [u64])
-    requires { ⌜ Elements (record { genotypes = now g; baseCalls = now b; scores = now f; x = now x; y = now y }) (j + n) × (9 * n ≤ length (now out)) ⌝ }
-    ensures { λ _. ⌜ now (out .exit) ≡ records 9 snpNumbers (snpsAt (record { genotypes = now (g .entry); baseCalls = now (b .entry); scores = now (f .entry); x = now (x .entry); y = now (y .entry) }) n j) ++ drop (9 * n) (now (out .entry)) ⌝ }
+    requires { ⌜ ElementsPresent (snpBytesOf (now g) (now b) (now f) (now x) (now y)) (j + n) × (snpWidth * n ≤ length (now out)) ⌝ }
+    ensures { λ _. ⌜ now (out .exit) ≡ snpRecords
+        (snpsAt (snpBytesOf (now (g .entry)) (now (b .entry)) (now (f .entry)) (now (x .entry)) (now (y .entry))) n j)
+        ++ drop (snpWidth * n) (now (out .entry)) ⌝ }
 {
     let end = j + n;
     let mut k = j;
     let mut p = 0;
     while k < end {
         put_record(out, p, snp_at(g, b, f, x, y, k));
-        p += 9;
+        p += SNP_WIDTH;
         k += 1;
     }
 }
 
+// The SNPs of these arrays from number `first` on.
 fn snps_of(s: &[u8], a: SnpArrays, first: u64, out: &mut [u64]) -> Copied
-    requires { ⌜ Present (now s) a × Sized a ⌝ }
+    requires { ⌜ ArraysPresent (now s) a × ArraysSized a ⌝ }
     ensures { λ r. ⌜ answerOfCopied r ≡ mapAnswer length (answer (snpsOf a first (length (now (out .entry)))) (now (s .entry))) ⌝ }
-    ensures { λ _. ⌜ now (out .exit) ≡ filled (mapAnswer (records 9 snpNumbers) (answer (snpsOf a first (length (now (out .entry)))) (now (s .entry)))) (now (out .entry)) ⌝ }
+    ensures { λ _. ⌜ now (out .exit) ≡ filled
+        (mapAnswer snpRecords (answer (snpsOf a first (length (now (out .entry)))) (now (s .entry)))) (now (out .entry)) ⌝ }
 {
     let count = a.genotypes.count as u64;
     if first < 1 {
@@ -96,11 +106,11 @@ fn snps_of(s: &[u8], a: SnpArrays, first: u64, out: &mut [u64]) -> Copied
         return Copied::Refused(12);
     }
     let room = out.len();
-    if room < 9 {
+    if room < SNP_WIDTH {
         return Copied::Refused(13);
     }
     let j = (first - 1) as usize;
-    let n = smaller((count - (first - 1)) as usize, room / 9);
+    let n = smaller((count - (first - 1)) as usize, room / SNP_WIDTH);
     let g = elements(s, a.genotypes);
     let b = elements(s, a.base_calls);
     let f = elements(s, a.scores);
@@ -114,7 +124,8 @@ fn snps_of(s: &[u8], a: SnpArrays, first: u64, out: &mut [u64]) -> Copied
 // and those of `Snp`.
 pub fn read_snps(s: &[u8], first: u64, out: &mut [u64]) -> Copied
     ensures { λ r. ⌜ answerOfCopied r ≡ mapAnswer length (answer (snpsReading first (length (now (out .entry)))) (now (s .entry))) ⌝ }
-    ensures { λ _. ⌜ now (out .exit) ≡ filled (mapAnswer (records 9 snpNumbers) (answer (snpsReading first (length (now (out .entry)))) (now (s .entry)))) (now (out .entry)) ⌝ }
+    ensures { λ _. ⌜ now (out .exit) ≡ filled
+        (mapAnswer snpRecords (answer (snpsReading first (length (now (out .entry)))) (now (s .entry)))) (now (out .entry)) ⌝ }
 {
     match snp_arrays(s) {
         ArraysFound::Refused(n) => Copied::Refused(n),

@@ -1,8 +1,9 @@
 // The normalization transformations.
-use gtc::item::ItemData;
-use gtc::lookup::Found;
+use gtc::item::NORMALIZATION_TRANSFORMATIONS_ID;
 use gtc::lookup::lookup;
 use reading::float::single;
+use reading::item::Found;
+use reading::item::ItemData;
 use reading::number::le32;
 use reading::number::signed32;
 use reading::part::part;
@@ -11,7 +12,12 @@ ghost use Prim.Native.Nat.{_+_, _≤_, _<_};
 ghost use lib.ListN.{length};
 ghost use Rattle.reading.specs.Check.{answer, mapAnswer};
 ghost use Rattle.reading.specs.Part.{shown, handedBack};
-ghost use Rattle.gtc_records.specs.Transformation.{floatAt, transformationAt, transformationOf, transformationReading, transformationSpan, transformationRead};
+ghost use Rattle.gtc.specs.Item.{itemEnd};
+ghost use Rattle.gtc_records.specs.Transformation.{transformationSize, floatAt, transformationAt, transformationOf, transformationReading, transformationSpan};
+ghost use Rattle.gtc_records.specs.Answers.{answerOfTransformationRead};
+
+// A transformation is a version and twelve floats.
+const TRANSFORMATION_SIZE: usize = 52;
 
 // A transformation, as the 52 bytes of the file hold it.
 #[repr(C)]
@@ -43,8 +49,9 @@ fn float_at(l: &[u8], p: usize) -> f32
     single(le32(l, p))
 }
 
+// The transformation at place p.
 fn transformation_at(l: &[u8], p: usize) -> Transformation
-    requires { ⌜ p + 52 ≤ 0xffffffffffffffff ⌝ }
+    requires { ⌜ p + transformationSize ≤ 0xffffffffffffffff ⌝ }
     ensures { λ r. ⌜ r ≡ transformationAt (now (l .entry)) p ⌝ }
 {
     Transformation {
@@ -64,9 +71,10 @@ fn transformation_at(l: &[u8], p: usize) -> Transformation
     }
 }
 
+// Number k of the array.
 fn transformation_of(s: &[u8], q: ItemData, k: u64) -> TransformationRead
-    requires { ⌜ q .start + q .size ≤ length (now s) ⌝ }
-    ensures { λ r. ⌜ transformationRead r ≡ answer (transformationOf q k) (now (s .entry)) ⌝ }
+    requires { ⌜ itemEnd q ≤ length (now s) ⌝ }
+    ensures { λ r. ⌜ answerOfTransformationRead r ≡ answer (transformationOf q k) (now (s .entry)) ⌝ }
 {
     if k < 1 {
         return TransformationRead::Refused(12);
@@ -75,7 +83,7 @@ fn transformation_of(s: &[u8], q: ItemData, k: u64) -> TransformationRead
         return TransformationRead::Refused(12);
     }
     let end = q.start + q.size;
-    let start = q.start + 52 * (k - 1) as usize;
+    let start = q.start + TRANSFORMATION_SIZE * (k - 1) as usize;
     TransformationRead::At {
         start,
         value: transformation_at(&s[..end], start),
@@ -84,9 +92,9 @@ fn transformation_of(s: &[u8], q: ItemData, k: u64) -> TransformationRead
 
 // Transformation number k, from one.
 pub fn read_transformation(s: &[u8], k: u64) -> TransformationRead
-    ensures { λ r. ⌜ transformationRead r ≡ answer (transformationReading k) (now (s .entry)) ⌝ }
+    ensures { λ r. ⌜ answerOfTransformationRead r ≡ answer (transformationReading k) (now (s .entry)) ⌝ }
 {
-    match lookup(s, 400) {
+    match lookup(s, NORMALIZATION_TRANSFORMATIONS_ID) {
         Found::Refused(n) => TransformationRead::Refused(n),
         Found::Data(q) => transformation_of(s, q, k),
     }
@@ -98,6 +106,6 @@ pub fn transformation_part(s: &[u8], k: u64) -> &[u8]
 {
     match read_transformation(s, k) {
         TransformationRead::Refused(_) => part(s, 0, 0),
-        TransformationRead::At { start, value: _ } => part(s, start, 52),
+        TransformationRead::At { start, value: _ } => part(s, start, TRANSFORMATION_SIZE),
     }
 }

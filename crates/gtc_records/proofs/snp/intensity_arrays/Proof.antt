@@ -3,7 +3,7 @@ use Rattle.gtc_records.proofs.snp.intensity_arrays.Statement.{statement
 use Rattle.gtc_records.proofs.snp.intensity_arrays.Tie as tie
 use mathlib.Core.Path.{_∙_, sym, ap}
 use Rattle.reading.proofs.Steps.{answer-bind, answer-done}
-use Rattle.gtc.specs.Lookup.{found}
+use Rattle.reading.specs.Answers.{answerOfFound}
 use Rattle.gtc_records.specs.Snp.{intensityArrays}
 
 lookup-requires : tie.Need-lookup-requires
@@ -27,21 +27,21 @@ enum-known-y c = search needs
 returns : tie.Need-returns
 unfolding intensityArrays
 returns c =
-    let x = sym (c .before .before .before .lookup .ensures) ∙ ap found (c .before .n .given .1) in
+    let x = sym (c .before .before .before .lookup .ensures) ∙ ap answerOfFound (c .before .n .given .1) in
     simp (answer-bind, x)
 
 returns-2 : tie.Need-returns-2
 unfolding intensityArrays
 returns-2 c =
-    let x = sym (c .before .before .before .before .before .before .before .lookup .ensures) ∙ ap found (c .before .before .before .before .before .x .given .1) in
-    let y = sym (c .before .before .before .lookup2 .ensures) ∙ ap found (c .before .n2 .given .1) in
+    let x = sym (c .before .before .before .before .before .before .before .lookup .ensures) ∙ ap answerOfFound (c .before .before .before .before .before .x .given .1) in
+    let y = sym (c .before .before .before .lookup2 .ensures) ∙ ap answerOfFound (c .before .n2 .given .1) in
     simp (answer-bind, x, y)
 
 returns-3 : tie.Need-returns-3
 unfolding intensityArrays
 returns-3 c =
-    let x = sym (c .before .before .before .before .before .before .before .lookup .ensures) ∙ ap found (c .before .before .before .before .before .x .given .1) in
-    let y = sym (c .before .before .before .lookup2 .ensures) ∙ ap found (c .before .y .given .1) in
+    let x = sym (c .before .before .before .before .before .before .before .lookup .ensures) ∙ ap answerOfFound (c .before .before .before .before .before .x .given .1) in
+    let y = sym (c .before .before .before .lookup2 .ensures) ∙ ap answerOfFound (c .before .y .given .1) in
     simp (answer-bind, answer-done, x, y)
 
 pub intensity-arrays-spec : {M : Type 1} → statement M

@@ -3,7 +3,8 @@ use Rattle.gtc_records.proofs.snp.snp_arrays.Statement.{statement}
 use Rattle.gtc_records.proofs.snp.snp_arrays.Tie as tie
 use mathlib.Core.Path.{_∙_, sym, ap}
 use Rattle.reading.proofs.Steps.{answer-bind, answer-done}
-use Rattle.gtc_records.specs.Snp.{snpArrays, callsFound, intensitiesFound}
+use Rattle.gtc_records.specs.Snp.{snpArrays}
+use Rattle.gtc_records.specs.Answers.{answerOfCalls, answerOfIntensities}
 
 call-arrays-requires : tie.Need-call-arrays-requires
 call-arrays-requires c κs = search needs
@@ -26,21 +27,21 @@ enum-known-x c = search needs
 returns : tie.Need-returns
 unfolding snpArrays
 returns c =
-    let a = sym (c .before .before .before .call-arrays .ensures) ∙ ap callsFound (c .before .n .given .1) in
+    let a = sym (c .before .before .before .call-arrays .ensures) ∙ ap answerOfCalls (c .before .n .given .1) in
     simp (answer-bind, a)
 
 returns-2 : tie.Need-returns-2
 unfolding snpArrays
 returns-2 c =
-    let a = sym (c .before .before .before .before .before .before .before .call-arrays .ensures) ∙ ap callsFound (c .before .before .before .before .before .genotypes .given .1) in
-    let i = sym (c .before .before .before .intensity-arrays .ensures) ∙ ap intensitiesFound (c .before .n2 .given .1) in
+    let a = sym (c .before .before .before .before .before .before .before .call-arrays .ensures) ∙ ap answerOfCalls (c .before .before .before .before .before .genotypes .given .1) in
+    let i = sym (c .before .before .before .intensity-arrays .ensures) ∙ ap answerOfIntensities (c .before .n2 .given .1) in
     simp (answer-bind, a, i)
 
 returns-3 : tie.Need-returns-3
 unfolding snpArrays
 returns-3 c =
-    let a = sym (c .before .before .before .before .before .before .before .call-arrays .ensures) ∙ ap callsFound (c .before .before .before .before .before .genotypes .given .1) in
-    let i = sym (c .before .before .before .intensity-arrays .ensures) ∙ ap intensitiesFound (c .before .x .given .1) in
+    let a = sym (c .before .before .before .before .before .before .before .call-arrays .ensures) ∙ ap answerOfCalls (c .before .before .before .before .before .genotypes .given .1) in
+    let i = sym (c .before .before .before .intensity-arrays .ensures) ∙ ap answerOfIntensities (c .before .x .given .1) in
     simp (answer-bind, answer-done, a, i)
 
 pub snp-arrays-spec : {M : Type 1} → statement M

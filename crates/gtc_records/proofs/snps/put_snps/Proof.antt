@@ -4,16 +4,16 @@ use mathlib.Core.List.{[], _++_}
 use native.Mathlib.Omega.{arith}
 use lib.ListN.{drop}
 use borrow.Author.Needs.{needs}
-use Rattle.reading.specs.Bulk.{records}
 use Rattle.reading.proofs.Fill.{Filling, fill-end}
-use Rattle.gtc_records.specs.Snps.{snpsAt, snpNumbers}
+use Rattle.gtc_records.specs.Snps.{snpsAt, snpRecords}
+use Rattle.gtc_records.specs.Snp.{snpBytesOf}
 use Rattle.gtc_records.proofs.snp.Laws.{elements-within}
-use Rattle.gtc_records.proofs.snps.Laws.{bytes, ahead, fill-first, fill-snp}
+use Rattle.gtc_records.proofs.snps.Laws.{ahead, fill-first, fill-snp}
 use Rattle.gtc_records.proofs.snps.put_snps.Statement.{statement}
 use Rattle.gtc_records.proofs.snps.put_snps.Tie as tie
 
 abbrev Inv-loop : tie.InvT-loop
-Inv-loop g b f x y j n out₀ end k₀ p₀ out k p = Filling (ahead (bytes g b f x y) k) (9 * n) p out₀ out (records 9 snpNumbers (snpsAt (bytes g b f x y) n j) ++ drop (9 * n) out₀) × (p + 9 * (j + n - k) ≡ 9 * n) × (j ≤ k) × (k ≤ j + n)
+Inv-loop g b f x y j n out₀ end k₀ p₀ out k p = Filling (ahead (snpBytesOf g b f x y) k) (9 * n) p out₀ out (snpRecords (snpsAt (snpBytesOf g b f x y) n j) ++ drop (9 * n) out₀) × (p + 9 * (j + n - k) ≡ 9 * n) × (j ≤ k) × (k ≤ j + n)
 
 abbrev μ-loop : tie.MeasureT-loop
 μ-loop g b f x y j n out₀ end k₀ p₀ out k p = j + n - k
@@ -25,7 +25,7 @@ loop-holds : tie.Need-loop-holds Inv-loop μ-loop
 loop-holds c =
     let z = c .before .before .before .before .before .before in
     let g = z .args in
-    (fill-first (bytes (g .g .now) (g .b .now) (g .f .now) (g .x .now) (g .y .now)) (g .n) (g .j) (g .out .now) (z .pre .1), omega arith, omega arith, omega arith)
+    (fill-first (snpBytesOf (g .g .now) (g .b .now) (g .f .now) (g .x .now) (g .y .now)) (g .n) (g .j) (g .out .now) (z .pre .1), omega arith, omega arith, omega arith)
 
 snp-at-requires : tie.Need-snp-at-requires Inv-loop μ-loop
 snp-at-requires c κs =
@@ -52,7 +52,7 @@ loop-again c =
     let g = p .before .before .before .before .before .before .before .args in
     let k = p .loop .k in
     let i = p .loop .inv in
-    (rw (c .before .before .put-record .ensures, s .snp-at .ensures []) (fill-snp (bytes (g .g .now) (g .b .now) (g .f .now) (g .x .now) (g .y .now)) k _ _ _ _ _ (i .0) (omega arith)), omega arith, omega arith, omega arith)
+    (rw (c .before .before .put-record .ensures, s .snp-at .ensures []) (fill-snp (snpBytesOf (g .g .now) (g .b .now) (g .f .now) (g .x .now) (g .y .now)) k _ _ _ _ _ (i .0) (omega arith)), omega arith, omega arith, omega arith)
 
 same-length : tie.Need-same-length Inv-loop μ-loop
 same-length c = search needs

@@ -4,7 +4,8 @@ use mathlib.Core.Path.{_∙_, sym, ap}
 use lib.ListN.{length}
 use borrow.Author.Needs.{needs}
 use Rattle.reading.proofs.Passed.{bind-refused, bind-answered}
-use Rattle.gtc_records.specs.Snp.{snpArrays, arraysFound}
+use Rattle.gtc_records.specs.Snp.{snpArrays}
+use Rattle.gtc_records.specs.Answers.{answerOfArraysFound}
 use Rattle.gtc_records.specs.Snps.{snpsOf, snpsReading}
 use Rattle.gtc_records.proofs.snp.Laws.{arrays-present, arrays-sized}
 
@@ -21,7 +22,7 @@ snps-of-requires : tie.Need-snps-of-requires
 snps-of-requires c κs =
     let o = c .before .before .before .before in
     let s = o .before .before .before .args .s .now in
-    let w = sym (o .snp-arrays .ensures) ∙ ap arraysFound (c .before .before .a .given .1) in
+    let w = sym (o .snp-arrays .ensures) ∙ ap answerOfArraysFound (c .before .before .a .given .1) in
     (arrays-present s _ w, arrays-sized s _ w)
 
 returns : tie.Need-returns
@@ -29,7 +30,7 @@ unfolding snpsReading
 returns c =
     let o = c .before .before .before in
     let g = o .before .before .before .args in
-    let e = bind-refused snpArrays (λ a. snpsOf a (g .first) (length (g .out .now))) (g .s .now) _ 0 (sym (o .snp-arrays .ensures) ∙ ap arraysFound (c .before .n .given .1)) in
+    let e = bind-refused snpArrays (λ a. snpsOf a (g .first) (length (g .out .now))) (g .s .now) _ 0 (sym (o .snp-arrays .ensures) ∙ ap answerOfArraysFound (c .before .n .given .1)) in
     (rw (← e), rw (← e))
 
 same-length : tie.Need-same-length
@@ -40,7 +41,7 @@ unfolding snpsReading
 returns-2 c =
     let o = c .before .before .before .before .before .before .before in
     let g = o .before .before .before .args in
-    let e = bind-answered snpArrays (λ a. snpsOf a (g .first) (length (g .out .now))) (g .s .now) _ (sym (o .snp-arrays .ensures) ∙ ap arraysFound (c .before .before .before .before .before .a .given .1)) in
+    let e = bind-answered snpArrays (λ a. snpsOf a (g .first) (length (g .out .now))) (g .s .now) _ (sym (o .snp-arrays .ensures) ∙ ap answerOfArraysFound (c .before .before .before .before .before .a .given .1)) in
     (c .before .before .snps-of .ensures .0 ∙ rw e, c .before .before .snps-of .ensures .1 ∙ rw e)
 
 pub read-snps-spec : {M : Type 1} → statement M

@@ -5,7 +5,7 @@ use mathlib.Core.Path.{_∙_, sym, ap}
 use native.Mathlib.Omega.{arith}
 use Rattle.reading.specs.Part.{shown}
 use Rattle.reading.proofs.Parts.{part-there}
-use Rattle.gtc_records.specs.Transformation.{transformationRead}
+use Rattle.gtc_records.specs.Answers.{answerOfTransformationRead}
 use Rattle.gtc_records.proofs.transformation.Laws.{reading-within}
 
 read-transformation-requires : tie.Need-read-transformation-requires
@@ -33,7 +33,7 @@ returns-2 c =
     let o = c .before .before .before .before in
     let g = o .before .before .args in
     let a = c .before .before in
-    let w = reading-within (g .k) (g .s .now) _ (sym (o .read-transformation .ensures) ∙ ap transformationRead (a .start .given .1)) in
+    let w = reading-within (g .k) (g .s .now) _ (sym (o .read-transformation .ensures) ∙ ap answerOfTransformationRead (a .start .given .1)) in
     c .part2 .ensures ∙ part-there (shown (g .s)) _ _ w ∙ rw (← o .read-transformation .ensures, a .start .given .1)
 
 pub transformation-part-spec : {M : Type 1} → statement M
