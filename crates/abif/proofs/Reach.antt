@@ -145,11 +145,11 @@ found-under a b s x w q e =
 
 date-under : (x : ℕ) (l : List ℕ) (p : ℕ) (s : List ℕ) → reach (dateAt l p) s ≤ x
 unfolding dateAt
-date-under x l p s = reach-under x _ _ s (reach-must-under x _ _ _ s) (λ _ _. reach-under x _ _ s (reach-must-under x _ _ _ s) (λ _ _. reach-done-under x _ s))
+date-under x l p s = reach-under x _ _ s (reach-must-under x _ _ _ s) (λ _ _. reach-done-under x _ s)
 
 time-under : (x : ℕ) (l : List ℕ) (p : ℕ) (s : List ℕ) → reach (timeAt l p) s ≤ x
 unfolding timeAt
-time-under x l p s = reach-under x _ _ s (reach-must-under x _ _ _ s) (λ _ _. reach-under x _ _ s (reach-must-under x _ _ _ s) (λ _ _. reach-under x _ _ s (reach-must-under x _ _ _ s) (λ _ _. reach-under x _ _ s (reach-must-under x _ _ _ s) (λ _ _. reach-done-under x _ s))))
+time-under x l p s = reach-under x _ _ s (reach-must-under x _ _ _ s) (λ _ _. reach-done-under x _ s)
 
 value-under : (x k : ℕ) (l : List ℕ) (p : ℕ) (s : List ℕ) → reach (valueAt k l p) s ≤ x
 unfolding valueAt
@@ -184,6 +184,5 @@ unfolding textReading textOf
 text-under a b s x w =
     reach-under x _ _ s (lookup-under a b s x w) (λ q e.
     reach-under x _ _ s (reach-must-under x _ _ _ s) (λ _ _.
-    reach-under x _ _ s (reach-must-under x _ _ _ s) (λ _ _.
     reach-under x _ _ s (reach-need-under x _ _ s (found-under a b s x w q e)) (λ l _.
-    string-under x (q .«element_type») q l s))))
+    string-under x (q .«element_type») q l s)))

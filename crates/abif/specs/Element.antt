@@ -7,9 +7,9 @@ use lib.IntN.{ℤ, pos}
 use lib.Ieee.{Float, binary32, binary64, ofBits}
 use Rattle.reading.specs.Choice.{pick, isNumberOf}
 use Rattle.reading.specs.Number.{be, signed}
-use Rattle.reading.specs.declared.check.Field.{Field}
-use Rattle.reading.specs.declared.check.Rule.the-variants.{AtMost, Between}
-use Rattle.reading.specs.Check.{Check, Answer, ok, refused, unsignedField, done, must, need, provided, _>>=_, _>>_}
+use Rattle.reading.specs.Check.{Check, Answer, ok, refused, done, need, provided, _>>=_, _>>_}
+use Rattle.contents.specs.Date.{isDate}
+use Rattle.contents.specs.Time.{isTime}
 use Rattle.abif.specs.declared.entry.ElementType.{ElementType}
 use Rattle.abif.specs.declared.entry.ElementType.the-variants.{Listed, Raw, Unknown}
 use Rattle.abif.specs.declared.element.Element.{Element}
@@ -37,24 +37,16 @@ wholeAt k l p =
     (pick (eqb k 5) (signed 4 (be 4 l p))
     (pos (be 1 l p)))))
 
--- the byte at place p
-abbrev pub byteField : List ℕ → ℕ → Field
-byteField l p = unsignedField 1 p (be 1 l p)
-
--- a date: year, month 1 to 12, day 1 to 31
+-- a date: year, month, day; else 11
 unfoldable pub dateAt : List ℕ → ℕ → Check Value
 dateAt l p = do
-  must (byteField l (p + 2)) (Between 1 12) 11
-  must (byteField l (p + 3)) (Between 1 31) 11
+  provided (isDate (signed 2 (be 2 l p)) (be 1 l (p + 2)) (be 1 l (p + 3))) 11
   done (date (signed 2 (be 2 l p)) (be 1 l (p + 2)) (be 1 l (p + 3)))
 
--- a time: hour 0 to 23, minute and second 0 to 59, hundredth 0 to 99
+-- a time: hour, minute, second, hundredth; else 11
 unfoldable pub timeAt : List ℕ → ℕ → Check Value
 timeAt l p = do
-  must (byteField l p) (AtMost 23) 11
-  must (byteField l (p + 1)) (AtMost 59) 11
-  must (byteField l (p + 2)) (AtMost 59) 11
-  must (byteField l (p + 3)) (AtMost 99) 11
+  provided (isTime (be 1 l p) (be 1 l (p + 1)) (be 1 l (p + 2)) (be 1 l (p + 3))) 11
   done (time (be 1 l p) (be 1 l (p + 1)) (be 1 l (p + 2)) (be 1 l (p + 3)))
 
 -- the element of type k at place p

@@ -1,37 +1,33 @@
 -- ABIF: the text of an item.
 use Prim.Native.Nat.{ℕ, _+_, _-_}
 use mathlib.Core.List.{List, [], _∷_}
-use mathlib.Core.Bool.{not}
-use lib.Dec.{leb, eqb}
+use lib.Dec.{eqb}
 use Rattle.reading.specs.Choice.{pick, among}
-use Rattle.reading.specs.declared.check.Rule.the-variants.{Exactly, EqualTo}
-use Rattle.reading.specs.Check.{Check, Answer, ok, refused, done, must, provided, _>>=_, _>>_}
-use Rattle.reading.specs.Part.{Span}
-use Rattle.contents.specs.Text.{zeroAmong}
+use Rattle.reading.specs.Check.{Check, Answer, ok, refused, done, provided, _>>=_, _>>_}
+use Rattle.reading.specs.Part.{Span, bytesAt}
+use Rattle.contents.specs.Text.{isPString, isCString}
 use Rattle.abif.specs.declared.text.Text.{Text}
 use Rattle.abif.specs.declared.text.Text.the-variants.{At, Refused}
 use Rattle.abif.specs.declared.lookup.ItemData.{ItemData}
-use Rattle.abif.specs.Lookup.{lookingUp}
-use Rattle.abif.specs.Element.{byteField, itemBytes}
+use Rattle.abif.specs.Lookup.{lookingUp, dataSpan}
+use Rattle.abif.specs.Element.{itemBytes}
 
--- a pString has a first byte equal to data size - 1, which the text lacks
+-- the text of a pString lacks its first byte
 unfoldable pub pString : ItemData → List ℕ → Check Span
 pString q l = do
-  must (byteField l (q .start)) (EqualTo (q .size - 1)) 11
+  provided (isPString (bytesAt l (dataSpan q))) 11
   done (record { start = q .start + 1; size = q .size - 1 })
 
--- a cString has a zero as its last byte, which the text lacks, and nowhere else
+-- the text of a cString lacks its last byte
 unfoldable pub cString : ItemData → List ℕ → Check Span
 cString q l = do
-  must (byteField l (q .start + (q .size - 1))) (Exactly 0) 11
-  provided (not (zeroAmong l (q .start) (q .size - 1))) 11
+  provided (isCString (bytesAt l (dataSpan q))) 11
   done (record { start = q .start; size = q .size - 1 })
 
--- other types 10; size 0 is 11
+-- other types 10; then the text's rule, else 11
 unfoldable pub textOf : ItemData → Check Span
 textOf q = do
   provided (among (q .«element_type») (18 ∷ 19 ∷ [])) 10
-  provided (leb 1 (q .size)) 11
   l ← itemBytes q
   pick (eqb (q .«element_type») 18) (pString q l) (cString q l)
 

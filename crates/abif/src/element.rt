@@ -4,6 +4,8 @@ use crate::entry::type_of;
 use crate::lookup::Found;
 use crate::lookup::ItemData;
 use crate::lookup::lookup;
+use contents::date::date_holds;
+use contents::time::time_holds;
 use reading::float::double;
 use reading::float::single;
 use reading::number::be16;
@@ -96,19 +98,10 @@ fn date_at(l: &[u8], p: usize) -> Element
     let year = signed16(be16(l, p));
     let month = byte(l, p + 2);
     let day = byte(l, p + 3);
-    if month < 1 {
-        return Element::Refused(11);
+    if date_holds(year, month, day) {
+        return Element::Date { year, month, day };
     }
-    if 12 < month {
-        return Element::Refused(11);
-    }
-    if day < 1 {
-        return Element::Refused(11);
-    }
-    if 31 < day {
-        return Element::Refused(11);
-    }
-    Element::Date { year, month, day }
+    Element::Refused(11)
 }
 
 fn time_at(l: &[u8], p: usize) -> Element
@@ -119,24 +112,15 @@ fn time_at(l: &[u8], p: usize) -> Element
     let minute = byte(l, p + 1);
     let second = byte(l, p + 2);
     let hundredth = byte(l, p + 3);
-    if 23 < hour {
-        return Element::Refused(11);
+    if time_holds(hour, minute, second, hundredth) {
+        return Element::Time {
+            hour,
+            minute,
+            second,
+            hundredth,
+        };
     }
-    if 59 < minute {
-        return Element::Refused(11);
-    }
-    if 59 < second {
-        return Element::Refused(11);
-    }
-    if 99 < hundredth {
-        return Element::Refused(11);
-    }
-    Element::Time {
-        hour,
-        minute,
-        second,
-        hundredth,
-    }
+    Element::Refused(11)
 }
 
 fn value_at(l: &[u8], code: u16, p: usize) -> Element

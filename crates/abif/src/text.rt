@@ -2,8 +2,8 @@
 use crate::lookup::Found;
 use crate::lookup::ItemData;
 use crate::lookup::lookup;
-use contents::text::has_zero;
-use reading::number::byte;
+use contents::text::c_string_holds;
+use contents::text::p_string_holds;
 use reading::part::part;
 ghost use mathlib.Core.Path.{_≡_};
 ghost use mathlib.Core.List.{List};
@@ -20,57 +20,47 @@ pub enum Text {
 }
 
 fn p_string(l: &[u8], q: ItemData) -> Text
-    requires { ⌜ (1 ≤ q .size) × (q .start + q .size ≤ length (now l)) ⌝ }
+    requires { ⌜ q .start + q .size ≤ length (now l) ⌝ }
     ensures { λ r. ⌜ ((s : List ℕ) → text r ≡ answer (pString q (now (l .entry))) s) ⌝ }
 {
-    if byte(l, q.start) as usize != q.size - 1 {
-        return Text::Refused(11);
+    let start = q.start;
+    let end = start + q.size;
+    if p_string_holds(&l[start..end]) {
+        return Text::At {
+            start: start + 1,
+            length: q.size - 1,
+        };
     }
-    Text::At {
-        start: q.start + 1,
-        length: q.size - 1,
-    }
+    Text::Refused(11)
 }
 
 fn c_string(l: &[u8], q: ItemData) -> Text
-    requires { ⌜ (1 ≤ q .size) × (q .start + q .size ≤ length (now l)) ⌝ }
+    requires { ⌜ q .start + q .size ≤ length (now l) ⌝ }
     ensures { λ r. ⌜ ((s : List ℕ) → text r ≡ answer (cString q (now (l .entry))) s) ⌝ }
 {
-    let n = q.size - 1;
-    if byte(l, q.start + n) != 0 {
-        return Text::Refused(11);
-    }
     let start = q.start;
-    let end = start + n;
-    let inner = has_zero(&l[start..end]);
-    if inner {
-        return Text::Refused(11);
+    let end = start + q.size;
+    if c_string_holds(&l[start..end]) {
+        return Text::At {
+            start,
+            length: q.size - 1,
+        };
     }
-    Text::At {
-        start: q.start,
-        length: n,
-    }
+    Text::Refused(11)
 }
 
 fn text_of(s: &[u8], q: ItemData) -> Text
     requires { ⌜ q .start + q .size ≤ length (now s) ⌝ }
     ensures { λ r. ⌜ text r ≡ answer (textOf q) (now (s .entry)) ⌝ }
 {
-    let code = q.element_type;
-    if code != 18 {
-        if code != 19 {
-            return Text::Refused(10);
-        }
-    }
-    if q.size < 1 {
-        return Text::Refused(11);
-    }
     let end = q.start + q.size;
     let l = &s[..end];
-    if code == 18 {
-        return p_string(l, q);
+    let code = q.element_type;
+    match code {
+        18 => p_string(l, q),
+        19 => c_string(l, q),
+        _ => Text::Refused(10),
     }
-    c_string(l, q)
 }
 
 // Where the text of the item with this tag stands.

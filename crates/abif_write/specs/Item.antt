@@ -16,7 +16,7 @@ use Rattle.abif.specs.Entry.{typeOf}
 use Rattle.abif_write.specs.declared.item.Item.{Item}
 use Rattle.abif_write.specs.declared.item.Passing.{Passing}
 use Rattle.abif_write.specs.declared.item.Passing.the-variants.{Pass, Fail}
-use Rattle.abif_write.specs.ItemContents.{contentsCheck}
+use Rattle.abif_write.specs.ItemContents.{contentsHold}
 
 -- item i of the lent records; its type by its 16 bits
 unfoldable pub given : List ℕ → List ℤ → List ℤ → List ℕ → List ℕ → List ℕ → ℕ → Item
@@ -76,7 +76,7 @@ itemCheck b d = do
   provided (leb (d .start + d .size) (length b)) 9
   provided (isTaken (typeOf (d .«element_type»)) (d .«element_type»)) 10
   countCheck d
-  contentsCheck (d .«element_type») (d .count) (part b d)
+  provided (contentsHold (d .«element_type») (d .count) (part b d)) 11
 
 -- the tag of a stands below that of b: name by unsigned bytes, then signed number
 abbrev pub tagBelow : Item → Item → Bool

@@ -2,8 +2,8 @@
 use Prim.Native.Nat.{ℕ, _+_, _-_, _*_, _^_, _≤_, _<_}
 use mathlib.Core.Path.{_≡_, _∙_, ap}
 use mathlib.Core.List.{List}
-use mathlib.Core.Bool.{true, false, not}
-use lib.IntN.{pos}
+use mathlib.Core.Bool.{Bool, true, false, not}
+use lib.IntN.{ℤ, pos}
 use lib.ListN.{length, take}
 use lib.Dec.{eqb}
 use lib.Ieee.{binary32, binary64, ofBits}
@@ -14,11 +14,13 @@ use Rattle.reading.specs.Choice.{isNumberOf}
 use Rattle.reading.specs.Number.{be, signed}
 use Rattle.reading.specs.Check.{ok, refused, answer, holds}
 use Rattle.reading.proofs.Product.{below}
-use Rattle.reading.proofs.Steps.{answer-bind, answer-must, answer-need-present}
+use Rattle.reading.proofs.Steps.{answer-bind, answer-must, answer-done, answer-need-present}
+use Rattle.contents.specs.Date.{isDate}
+use Rattle.contents.specs.Time.{isTime}
 use Rattle.abif.specs.declared.entry.ElementType.the-variants.{Listed}
 use Rattle.abif.specs.declared.lookup.ItemData.{ItemData}
 use Rattle.abif.specs.Entry.{typeOf}
-use Rattle.abif.specs.Element.{single, double, thumb, bool, whole, wholeAt, dateAt, timeAt, valueAt, isListed, elementOf}
+use Rattle.abif.specs.Element.{single, double, date, time, thumb, bool, whole, wholeAt, dateAt, timeAt, valueAt, isListed, elementOf}
 
 -- the place of an element is a machine's number
 pub place-below : {s w i : ℕ} → s < 0x100000000 → w < 2 ^ 16 → i < 2 ^ 32 → s + w * i < 0x2000000000000
@@ -55,6 +57,25 @@ module _ (l : List ℕ) (p k : ℕ) where
   pub whole-byte : (k ≡ 2 → ⊥) → (k ≡ 3 → ⊥) → (k ≡ 4 → ⊥) → (k ≡ 5 → ⊥) → pos (be 1 l p) ≡ wholeAt k l p
   unfolding wholeAt
   whole-byte a b c d = rw (ne-eqb k 2 a, ne-eqb k 3 b, ne-eqb k 4 c, ne-eqb k 5 d)
+
+-- a date and a time, from their fields and whether the rule holds of these
+module _ (l s : List ℕ) (p : ℕ) (y : ℤ) (m d : ℕ) (ey : y ≡ signed 2 (be 2 l p)) (em : m ≡ be 1 l (p + 2)) (ed : d ≡ be 1 l (p + 3)) (r : Bool) (e : r ≡ isDate y m d) where
+  pub date-good : r ≡ true → ok (date y m d) ≡ answer (dateAt l p) s
+  unfolding dateAt holds
+  date-good h = simp (answer-bind, answer-must, answer-done, ← ey, ← em, ← ed, ← e, h)
+
+  pub date-bad : r ≡ false → refused 11 0 ≡ answer (dateAt l p) s
+  unfolding dateAt holds
+  date-bad h = simp (answer-bind, answer-must, ← ey, ← em, ← ed, ← e, h)
+
+module _ (l s : List ℕ) (p a m n c : ℕ) (ea : a ≡ be 1 l p) (em : m ≡ be 1 l (p + 1)) (en : n ≡ be 1 l (p + 2)) (ec : c ≡ be 1 l (p + 3)) (r : Bool) (e : r ≡ isTime a m n c) where
+  pub time-good : r ≡ true → ok (time a m n c) ≡ answer (timeAt l p) s
+  unfolding timeAt holds
+  time-good h = simp (answer-bind, answer-must, answer-done, ← ea, ← em, ← en, ← ec, ← e, h)
+
+  pub time-bad : r ≡ false → refused 11 0 ≡ answer (timeAt l p) s
+  unfolding timeAt holds
+  time-bad h = simp (answer-bind, answer-must, ← ea, ← em, ← en, ← ec, ← e, h)
 
 -- the element of each type
 module _ (l : List ℕ) (p k : ℕ) (s : List ℕ) where

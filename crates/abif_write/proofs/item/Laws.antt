@@ -17,7 +17,7 @@ use Rattle.abif.specs.Entry.{typeOf}
 use Rattle.abif_write.specs.declared.item.Item.{Item}
 use Rattle.abif_write.specs.declared.item.Passing.{Passing}
 use Rattle.abif_write.specs.declared.item.Passing.the-variants.{Pass, Fail}
-use Rattle.abif_write.specs.ItemContents.{contentsCheck, kept}
+use Rattle.abif_write.specs.ItemContents.{contentsHold}
 use Rattle.abif_write.specs.Item.{sameLengths, SameLengths, part, isTaken, countCheck, itemCheck, tagBelow, ordered, itemsCheck, passing, Sound}
 
 -- a test that the code negates
@@ -45,16 +45,20 @@ module _ (b : List ℕ) (d : Item) where
       unfolding itemCheck holds
       item-count n q = simp (answer-bind, answer-must, le-leb (d .start + d .size) (length b) h, ← et, f, ← er, q)
 
-      module _ (q : r ≡ Pass) (y : Bool) (ey : kept y ≡ answer (contentsCheck (d .«element_type») (d .count) (part b d)) []) where
-        pub item-contents : kept y ≡ answer (itemCheck b d) []
-        unfolding itemCheck holds
-        item-contents = simp (answer-bind, answer-must, le-leb (d .start + d .size) (length b) h, ← et, f, ← er, q) ey
+      -- y says of the part that was cut out whether its contents hold
+      module _ (q : r ≡ Pass) (y : Bool) (ey : y ≡ contentsHold (d .«element_type») (d .count) (take (d .start + d .size - d .start) (drop (d .start) b))) where
+        contents-is : contentsHold (d .«element_type») (d .count) (part b d) ≡ y
+        contents-is =
+            let k : d .start + d .size - d .start ≡ d .size = omega arith in
+            sym (rw k at ey)
 
--- the contents of the part that was cut out
-pub contents-part : (b : List ℕ) (d : Item) (y : Bool) → kept y ≡ answer (contentsCheck (d .«element_type») (d .count) (take (d .start + d .size - d .start) (drop (d .start) b))) [] → kept y ≡ answer (contentsCheck (d .«element_type») (d .count) (part b d)) []
-contents-part b d y e =
-    let k : d .start + d .size - d .start ≡ d .size = omega arith in
-    rw k at e
+        pub item-bad : y ≡ false → refused 11 0 ≡ answer (itemCheck b d) []
+        unfolding itemCheck holds
+        item-bad p = simp (answer-bind, answer-must, le-leb (d .start + d .size) (length b) h, ← et, f, ← er, q, contents-is, p)
+
+        pub item-good : y ≡ true → ok tt ≡ answer (itemCheck b d) []
+        unfolding itemCheck holds
+        item-good p = simp (answer-bind, answer-must, le-leb (d .start + d .size) (length b) h, ← et, f, ← er, q, contents-is, p)
 
 -- what the count's check leaves
 pub count-few : (d : Item) (r : Passing) → passing r ≡ answer (countCheck d) [] → r ≡ Pass → d .count < 0x80000000

@@ -1,9 +1,7 @@
 use mir.Syntax.{w16}
-use borrow.Author.Needs.{needs}
-use Rattle.reading.specs.Check.{answer}
 use Rattle.reading.proofs.Signs.{field-is}
-use Rattle.reading.proofs.Tests.{tests}
-use Rattle.abif.specs.Element.{dateAt}
+use Rattle.abif.proofs.element.Laws.{date-good, date-bad}
+use borrow.Author.Needs.{needs}
 use Rattle.abif.proofs.element.date_at.Statement.{statement}
 use Rattle.abif.proofs.element.date_at.Tie as tie
 
@@ -25,29 +23,22 @@ add-byte-2 c = search needs
 byte-requires-2 : tie.Need-byte-requires-2
 byte-requires-2 c κs = search needs
 
+date-holds-requires : tie.Need-date-holds-requires
+date-holds-requires c κs = search needs
+
 returns : tie.Need-returns
-unfolding dateAt answer
-returns c s = search (tests, ← c .before .byte2 .ensures, ← c .before .before .byte .ensures)
-
-returns-2 : tie.Need-returns-2
-unfolding dateAt answer
-returns-2 c s = search (tests, ← c .before .before .byte2 .ensures, ← c .before .before .before .byte .ensures)
-
-returns-3 : tie.Need-returns-3
-unfolding dateAt answer
-returns-3 c s = search (tests, ← c .before .before .before .byte2 .ensures, ← c .before .before .before .before .byte .ensures)
-
-returns-4 : tie.Need-returns-4
-unfolding dateAt answer
-returns-4 c s = search (tests, ← c .before .before .before .before .byte2 .ensures, ← c .before .before .before .before .before .byte .ensures)
-
-returns-5 : tie.Need-returns-5
-unfolding dateAt answer
-returns-5 c s =
-    let a = c .before .before .before .before in
+returns c s =
+    let a = c .before .before in
     let y = a .before .before in
     let e = field-is w16 2 _ _ _ (y .signed16 .ok) (y .signed16 .ensures) (y .before .be16 .ensures) in
-    search (tests, ← a .byte2 .ensures, ← a .before .byte .ensures, e)
+    date-good _ s _ _ _ _ e (a .before .byte .ensures) (a .byte2 .ensures) _ (c .before .date-holds .ensures) (c .if1 .taken)
+
+returns-2 : tie.Need-returns-2
+returns-2 c s =
+    let a = c .before .before in
+    let y = a .before .before in
+    let e = field-is w16 2 _ _ _ (y .signed16 .ok) (y .signed16 .ensures) (y .before .be16 .ensures) in
+    date-bad _ s _ _ _ _ e (a .before .byte .ensures) (a .byte2 .ensures) _ (c .before .date-holds .ensures) (c .if1 .left)
 
 pub date-at-spec : {M : Type 1} → statement M
 date-at-spec =
@@ -59,8 +50,6 @@ date-at-spec =
     byte-requires
     add-byte-2
     byte-requires-2
+    date-holds-requires
     returns
-    returns-2
-    returns-3
-    returns-4
-    returns-5)
+    returns-2)

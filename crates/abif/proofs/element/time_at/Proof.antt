@@ -1,7 +1,5 @@
+use Rattle.abif.proofs.element.Laws.{time-good, time-bad}
 use borrow.Author.Needs.{needs}
-use Rattle.reading.specs.Check.{answer}
-use Rattle.reading.proofs.Tests.{tests}
-use Rattle.abif.specs.Element.{timeAt}
 use Rattle.abif.proofs.element.time_at.Statement.{statement}
 use Rattle.abif.proofs.element.time_at.Tie as tie
 
@@ -26,25 +24,18 @@ add-byte-3 c = search needs
 byte-requires-4 : tie.Need-byte-requires-4
 byte-requires-4 c κs = search needs
 
+time-holds-requires : tie.Need-time-holds-requires
+time-holds-requires c κs = search needs
+
 returns : tie.Need-returns
-unfolding timeAt answer
-returns c s = search (tests, ← c .before .byte4 .ensures, ← c .before .before .byte3 .ensures, ← c .before .before .before .byte2 .ensures, ← c .before .before .before .before .byte .ensures)
+returns c s =
+    let a = c .before .before in
+    time-good _ s _ _ _ _ _ (a .before .before .before .byte .ensures) (a .before .before .byte2 .ensures) (a .before .byte3 .ensures) (a .byte4 .ensures) _ (c .before .time-holds .ensures) (c .if1 .taken)
 
 returns-2 : tie.Need-returns-2
-unfolding timeAt answer
-returns-2 c s = search (tests, ← c .before .before .byte4 .ensures, ← c .before .before .before .byte3 .ensures, ← c .before .before .before .before .byte2 .ensures, ← c .before .before .before .before .before .byte .ensures)
-
-returns-3 : tie.Need-returns-3
-unfolding timeAt answer
-returns-3 c s = search (tests, ← c .before .before .before .byte4 .ensures, ← c .before .before .before .before .byte3 .ensures, ← c .before .before .before .before .before .byte2 .ensures, ← c .before .before .before .before .before .before .byte .ensures)
-
-returns-4 : tie.Need-returns-4
-unfolding timeAt answer
-returns-4 c s = search (tests, ← c .before .before .before .before .byte4 .ensures, ← c .before .before .before .before .before .byte3 .ensures, ← c .before .before .before .before .before .before .byte2 .ensures, ← c .before .before .before .before .before .before .before .byte .ensures)
-
-returns-5 : tie.Need-returns-5
-unfolding timeAt answer
-returns-5 c s = search (tests, ← c .before .before .before .before .byte4 .ensures, ← c .before .before .before .before .before .byte3 .ensures, ← c .before .before .before .before .before .before .byte2 .ensures, ← c .before .before .before .before .before .before .before .byte .ensures)
+returns-2 c s =
+    let a = c .before .before in
+    time-bad _ s _ _ _ _ _ (a .before .before .before .byte .ensures) (a .before .before .byte2 .ensures) (a .before .byte3 .ensures) (a .byte4 .ensures) _ (c .before .time-holds .ensures) (c .if1 .left)
 
 pub time-at-spec : {M : Type 1} → statement M
 time-at-spec =
@@ -57,8 +48,6 @@ time-at-spec =
     byte-requires-3
     add-byte-3
     byte-requires-4
+    time-holds-requires
     returns
-    returns-2
-    returns-3
-    returns-4
-    returns-5)
+    returns-2)

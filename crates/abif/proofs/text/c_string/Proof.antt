@@ -1,65 +1,48 @@
-use Prim.Native.Nat.{_+_, _-_}
-use mathlib.Core.Path.{_∙_}
 use native.Mathlib.Omega.{arith}
-use Rattle.contents.proofs.text.Laws.{zero-window}
-use Rattle.abif.proofs.text.Laws.{c-bad, c-inner, c-good}
+use Rattle.abif.proofs.text.Laws.{c-long, c-bad, c-good}
 use borrow.Author.Needs.{needs}
 use Rattle.abif.proofs.text.c_string.Statement.{statement}
 use Rattle.abif.proofs.text.c_string.Tie as tie
 
-sub-n : tie.Need-sub-n
-sub-n c = search needs
-
-add-byte : tie.Need-add-byte
-add-byte c = search needs
-
-byte-requires : tie.Need-byte-requires
-byte-requires c κs = search needs
-
-returns : tie.Need-returns
-returns c l =
-    let g = c .before .before .before .before .before .args in
-    c-bad (g .q) (g .l .now) l _ (c .before .byte .ensures) (c .if1 .taken)
-
 add-end : tie.Need-add-end
 add-end c = search needs
 
-sub-has-zero : tie.Need-sub-has-zero
-sub-has-zero c = search needs
+sub-c-string-holds : tie.Need-sub-c-string-holds
+sub-c-string-holds c = search needs
 
-part-has-zero-start : tie.Need-part-has-zero-start
-part-has-zero-start c = search needs
+part-c-string-holds-start : tie.Need-part-c-string-holds-start
+part-c-string-holds-start c = search needs
 
-part-has-zero-end : tie.Need-part-has-zero-end
-part-has-zero-end c = search needs
+part-c-string-holds-end : tie.Need-part-c-string-holds-end
+part-c-string-holds-end c = search needs
 
-has-zero-requires : tie.Need-has-zero-requires
-has-zero-requires c κs = search needs
+c-string-holds-requires : tie.Need-c-string-holds-requires
+c-string-holds-requires c κs = search needs
+
+sub-t10 : tie.Need-sub-t10
+sub-t10 c =
+    let g = c .before .before .before .before .before .before .args in
+    omega (arith, c-long (g .q) (g .l .now) (g .l .now) (omega arith) _ (c .before .before .c-string-holds .ensures) (c .before .if1 .taken))
+
+returns : tie.Need-returns
+returns c s =
+    let g = c .before .before .before .before .before .before .args in
+    c-good (g .q) (g .l .now) s (omega arith) _ (c .before .before .c-string-holds .ensures) (c .before .if1 .taken)
 
 returns-2 : tie.Need-returns-2
-returns-2 c l =
-    let g = c .before .before .before .before .before .before .before .before .args in
-    let z = c .before .has-zero .ensures ∙ zero-window (g .l .now) (g .q .start) (g .q .size - 1) (g .q .start + (g .q .size - 1) - g .q .start) (omega arith) (omega arith) in
-    c-inner (g .q) (g .l .now) l _ (c .before .before .before .before .byte .ensures) (c .before .before .before .if1 .left) _ z (c .if2 .taken)
-
-returns-3 : tie.Need-returns-3
-returns-3 c l =
-    let g = c .before .before .before .before .before .before .before .before .args in
-    let z = c .before .has-zero .ensures ∙ zero-window (g .l .now) (g .q .start) (g .q .size - 1) (g .q .start + (g .q .size - 1) - g .q .start) (omega arith) (omega arith) in
-    c-good (g .q) (g .l .now) l _ (c .before .before .before .before .byte .ensures) (c .before .before .before .if1 .left) _ z (c .if2 .left)
+returns-2 c s =
+    let g = c .before .before .before .before .before .args in
+    c-bad (g .q) (g .l .now) s (omega arith) _ (c .before .c-string-holds .ensures) (c .if1 .left)
 
 pub c-string-spec : {M : Type 1} → statement M
 c-string-spec =
     tie.close
     (tie.spec
-    sub-n
-    add-byte
-    byte-requires
-    returns
     add-end
-    sub-has-zero
-    part-has-zero-start
-    part-has-zero-end
-    has-zero-requires
-    returns-2
-    returns-3)
+    sub-c-string-holds
+    part-c-string-holds-start
+    part-c-string-holds-end
+    c-string-holds-requires
+    sub-t10
+    returns
+    returns-2)
