@@ -4,7 +4,7 @@ use mathlib.Core.List.{List}
 use lib.IntN.{ℤ}
 use Rattle.reading.proofs.Refused.{Refuses, refuses-done, refuses-must, refuses-bind}
 use Rattle.abif_write.specs.declared.item.Item.{Item}
-use Rattle.abif_write.specs.Item.{countCheck, itemCheck, itemsCheck}
+use Rattle.abif_write.specs.Item.{records, countCheck, itemCheck, itemsCheck}
 use Rattle.abif_write.specs.File.{fileCheck}
 use Rattle.abif_write.specs.Write.{writing}
 
@@ -19,6 +19,6 @@ module _ (P : ℕ → ℕ → Type 0) (s : List ℕ) where
     items-refuses g b zero i = refuses-done P _ s
     items-refuses g b (suc m) i = refuses-bind P _ _ s (item-refuses b (g i)) (λ _ _. refuses-bind P _ _ s (refuses-must P _ _ 14 s (λ _. order)) (λ _ _. items-refuses g b m (i + 1)))
 
-    pub writing-refuses : P 5 0 → P 13 0 → (names : List ℕ) (numbers types : List ℤ) (counts starts lengths b : List ℕ) (room : ℕ) → Refuses P (writing names numbers types counts starts lengths b room) s
+    pub writing-refuses : P 5 0 → P 13 0 → (names : List ℕ) (numbers types : List ℤ) (counts starts lengths b : List ℕ) (room : ℕ) → Refuses P (writing (records names numbers types counts starts lengths) b room) s
     unfolding writing fileCheck
     writing-refuses many full names numbers types counts starts lengths b room = search (refuses-bind, refuses-must, refuses-done, items-refuses, sizes, many, full) depth 16
