@@ -1,10 +1,8 @@
 -- The flow steps of an SFF read.
-use Prim.Native.Nat.{ℕ, zero, suc, _+_, _*_, _≤_, _<_}
-use mathlib.Core.Path.{_≡_}
+use Prim.Native.Nat.{ℕ, zero, suc, _+_}
 use mathlib.Core.List.{List}
 use mathlib.Core.Bool.{Bool, true, false}
 use lib.Dec.{leb, eqb}
-use lib.ListN.{length}
 use Rattle.reading.specs.Choice.{pick}
 use Rattle.reading.specs.Number.{be}
 use Rattle.reading.specs.declared.check.Rule.the-variants.{AtLeast}
@@ -29,9 +27,3 @@ stepsCheck f l p n = do
 unfoldable pub stepSum : List ℕ → ℕ → ℕ → ℕ
 stepSum l p zero = 0
 stepSum l p (suc n) = flowStep l p + stepSum l (p + 1) n
-
--- r is the sum of the steps l where that is not past the most, else a number past it
-pub record SumUpTo (most : ℕ) (l : List ℕ) (r : ℕ) : Type 0 where
-  pub all : stepSum l 0 (length l) ≤ most → r ≡ stepSum l 0 (length l)
-  pub past : most < stepSum l 0 (length l) → most < r
-  pub small : r ≤ 65536 * length l

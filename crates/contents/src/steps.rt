@@ -1,19 +1,14 @@
 // The flow steps of an SFF read.
 use reading::number::byte;
+use reading::number::wide16;
 ghost use mathlib.Core.Path.{_≡_};
 ghost use mathlib.Core.List.{List};
-ghost use Prim.Native.Nat.{ℕ, _+_, _≤_, _<_};
+ghost use Prim.Native.Nat.{ℕ, _+_, _*_, _≤_, _<_, min};
 ghost use lib.Dec.{leb};
 ghost use lib.ListN.{length};
 ghost use Rattle.reading.specs.Choice.{pick};
 ghost use Rattle.reading.specs.Check.{answer, ok, refused};
-ghost use Rattle.contents.specs.Steps.{stepsCheck, stepSum, SumUpTo};
-
-fn wide(b: u8) -> u16
-    ensures { λ r. ⌜ (r ≡ b) × (r < 256) ⌝ }
-{
-    b as u16
-}
+ghost use Rattle.contents.specs.Steps.{stepsCheck, stepSum};
 
 // The sum of a few steps, in 16 bits: the machine adds more of them at once than in 64.
 fn chunk_sum(steps: &[u8]) -> u16
@@ -24,7 +19,7 @@ fn chunk_sum(steps: &[u8]) -> u16
     let mut sum = 0;
     let mut i = 0;
     while i < n {
-        sum += wide(byte(steps, i));
+        sum += wide16(byte(steps, i));
         i += 1;
     }
     sum
@@ -40,10 +35,11 @@ fn chunk_end(at: usize, n: usize) -> usize
     at + 256
 }
 
-// The sum of the steps where it is not past the most, else a number past it: from there on nothing is added.
+// The sum of the steps, or the number past the most where it is past that: from there on nothing is added.
 fn sum_up_to(most: u64, steps: &[u8]) -> u64
     requires { ⌜ most < 0x8000000000000000 ⌝ }
-    ensures { λ r. ⌜ SumUpTo most (now (steps .entry)) r ⌝ }
+    ensures { λ r. ⌜ (r ≡ min (stepSum (now (steps .entry)) 0 (length (now (steps .entry)))) (most + 1))
+        × (r ≤ 65536 * length (now (steps .entry))) ⌝ }
 {
     let n = steps.len();
     let mut sum = 0;
@@ -52,18 +48,19 @@ fn sum_up_to(most: u64, steps: &[u8]) -> u64
         let end = chunk_end(at, n);
         sum += chunk_sum(&steps[at..end]) as u64;
         if most < sum {
-            return sum;
+            return most + 1;
         }
         at = end;
     }
     sum
 }
 
-// The sum of the steps where it is not past 2^48, else a number past it.
+// The sum of the steps, at most 2^48. That of fewer than 2^32 steps is less.
 pub fn sum_of(steps: &[u8]) -> u64
-    ensures { λ r. ⌜ SumUpTo 0x1000000000000 (now (steps .entry)) r ⌝ }
+    ensures { λ r. ⌜ (r ≡ min (stepSum (now (steps .entry)) 0 (length (now (steps .entry)))) 0x1000000000000)
+        × (r ≤ 65536 * length (now (steps .entry))) ⌝ }
 {
-    sum_up_to(0x1000000000000, steps)
+    sum_up_to(0xffffffffffff, steps)
 }
 
 // The sum of the steps is not past the flows.

@@ -1,5 +1,5 @@
 -- The flow steps of a read, from the steps one by one; and the steps of a part, where the code reads them.
-use Prim.Native.Nat.{ℕ, zero, suc, _+_, _-_, _*_, _≤_, _<_}
+use Prim.Native.Nat.{ℕ, zero, suc, _+_, _-_, _*_, _≤_, _<_, min}
 use mathlib.Core.Path.{_≡_, refl, sym, _∙_, ap}
 use mathlib.Core.List.{List}
 use mathlib.Core.Bool.{Bool, true, false}
@@ -15,7 +15,7 @@ use Rattle.reading.proofs.Fold.{Same, same-first, fold-same, window-length}
 use Rattle.reading.proofs.Loop.{Left}
 use Rattle.reading.proofs.Steps.{answer-bind, answer-must}
 use Rattle.reading.proofs.Width.{be-in-part, be-taken}
-use Rattle.contents.specs.Steps.{flowStep, sumsWithin, stepsCheck, stepSum, SumUpTo}
+use Rattle.contents.specs.Steps.{flowStep, sumsWithin, stepsCheck, stepSum}
 
 -- steps with the sum t, then m more
 pub sum-start : (l : List ℕ) (n : ℕ) → Left (λ m. 0 + stepSum l 0 m) n 0 (stepSum l 0 n)
@@ -117,17 +117,19 @@ module _ (f : ℕ) (l s : List ℕ) (p n : ℕ) where
         simp (answer-bind, answer-must, ne-eqb n 0 k, ← eb, e, le-leb 1 b h)
 
 -- a sum that stops past the most: that of few steps does not stop, and a stopped one is past the most as the whole is
-module _ (most r : ℕ) (l : List ℕ) (u : SumUpTo most l r) where
-  pub sum-whole : 65536 * length l < most → r ≡ stepSum l 0 (length l)
-  sum-whole h = go (leb (stepSum l 0 (length l)) most) refl
-    where
-      go : (b : Bool) → leb (stepSum l 0 (length l)) most ≡ b → r ≡ stepSum l 0 (length l)
-      go true q = u .all (leb-true _ _ q)
-      go false q = absurd (omega (arith, u .past (leb-false (stepSum l 0 (length l)) most q), u .small))
+pub sum-whole : (most r : ℕ) (l : List ℕ) → (r ≡ min (stepSum l 0 (length l)) most) × (r ≤ 65536 * length l) → 65536 * length l < most → r ≡ stepSum l 0 (length l)
+sum-whole most r l u h =
+    let e = u .0 in
+    let k = u .1 in
+    omega arith
 
-  pub sum-tells : leb r most ≡ leb (stepSum l 0 (length l)) most
-  sum-tells = go (leb (stepSum l 0 (length l)) most) refl
-    where
-      go : (b : Bool) → leb (stepSum l 0 (length l)) most ≡ b → leb r most ≡ b
-      go true q = rw (u .all (leb-true _ _ q)) q
-      go false q = lt-leb r most (u .past (leb-false (stepSum l 0 (length l)) most q))
+pub sum-tells : (most r : ℕ) (l : List ℕ) → r ≡ min (stepSum l 0 (length l)) (most + 1) → leb r most ≡ leb (stepSum l 0 (length l)) most
+sum-tells most r l e = go (leb (stepSum l 0 (length l)) most) refl
+  where
+    go : (b : Bool) → leb (stepSum l 0 (length l)) most ≡ b → leb r most ≡ b
+    go true q =
+        let k : stepSum l 0 (length l) ≤ most = leb-true _ _ q in
+        le-leb r most (omega arith)
+    go false q =
+        let k : most < stepSum l 0 (length l) = leb-false _ _ q in
+        lt-leb r most (omega arith)

@@ -20,8 +20,8 @@ loop-holds c = (omega arith, omega arith, sum-start (c .before .args .steps .now
 byte-requires : tie.Need-byte-requires Inv-loop μ-loop
 byte-requires c κs = search needs
 
-wide-requires : tie.Need-wide-requires Inv-loop μ-loop
-wide-requires c κs = search needs
+wide16-requires : tie.Need-wide16-requires Inv-loop μ-loop
+wide16-requires c κs = search needs
 
 add-sum : tie.Need-add-sum Inv-loop μ-loop
 add-sum c = omega arith
@@ -36,7 +36,7 @@ loop-again : tie.Need-loop-again Inv-loop μ-loop
 loop-again c =
     let l = c .before .before .before in
     let g = l .before .before .args in
-    (omega arith, omega arith, left-next _ _ _ _ (l .loop .inv .2) _ (λ m. sum-on (g .steps .now) (l .loop .i) (l .loop .sum) (c .wide .result) (c .wide .ensures .0 ∙ c .before .byte .ensures) m))
+    (omega arith, omega arith, left-next _ _ _ _ (l .loop .inv .2) _ (λ m. sum-on (g .steps .now) (l .loop .i) (l .loop .sum) (c .wide16 .result) (c .wide16 .ensures .0 ∙ c .before .byte .ensures) m))
 
 returns : tie.Need-returns Inv-loop μ-loop
 returns c =
@@ -51,7 +51,7 @@ chunk-sum-spec =
     μ-loop
     loop-holds
     byte-requires
-    wide-requires
+    wide16-requires
     add-sum
     add-i
     loop-less

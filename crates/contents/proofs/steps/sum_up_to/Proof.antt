@@ -38,12 +38,15 @@ cast-sum c = search needs
 add-sum : tie.Need-add-sum Inv-loop μ-loop
 add-sum c = omega arith
 
+add-result : tie.Need-add-result Inv-loop μ-loop
+add-result c = omega arith
+
 returns : tie.Need-returns Inv-loop μ-loop
 returns c =
     let l = c .before .before .before .before .before .loop in
     let g = c .before .before .before .before .before .before .before .args in
     let w = sum-chunk (g .steps .now) (l .at) (c .before .before .before .chunk-end .result) _ (l .sum) (c .before .chunk-sum .result) _ (omega arith) (omega arith) (omega arith) (l .inv .2) (c .before .chunk-sum .ensures) in
-    record { all = λ h. absurd (omega arith); past = λ _. omega arith; small = omega arith }
+    (omega arith, omega arith)
 
 loop-less : tie.Need-loop-less Inv-loop μ-loop
 loop-less c = omega arith
@@ -59,7 +62,7 @@ returns-2 c =
     let l = c .before .loop in
     let g = c .before .before .before .args in
     let w = sum-all (g .steps .now) (l .at) _ (l .sum) _ (omega arith) (l .inv .2) in
-    record { all = λ _. w; past = λ h. absurd (omega arith); small = omega arith }
+    (omega arith, omega arith)
 
 pub sum-up-to-spec : {M : Type 1} → statement M
 sum-up-to-spec =
@@ -75,6 +78,7 @@ sum-up-to-spec =
     chunk-sum-requires
     cast-sum
     add-sum
+    add-result
     returns
     loop-less
     loop-again
