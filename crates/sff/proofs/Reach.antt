@@ -12,17 +12,19 @@ use Rattle.reading.proofs.Steps.{reach-done, reach-must, reach-need, reach-at}
 use Rattle.reading.proofs.Passed.{bind-ok, done-ok, must-ok, at-ok, ok-inj}
 use Rattle.reading.proofs.Reach.{reach-none, reach-under, reach-must-under, reach-need-under, reach-pick-under, reach-done-under}
 use Rattle.reading.proofs.Tests.{number-within}
-use Rattle.sff.specs.declared.header.Header.{Header}
-use Rattle.sff.specs.declared.read.ReadHeader.{ReadHeader}
+use Rattle.sff_fields.specs.declared.header.Header.{Header}
+use Rattle.sff_fields.specs.declared.read.ReadHeader.{ReadHeader}
 use Rattle.sff.specs.declared.walk.Boundary.{Boundary}
-use Rattle.sff.specs.declared.position.BasePosition.{BasePosition}
-use Rattle.sff.specs.declared.lookup.Read.{Read}
-use Rattle.sff.specs.declared.lookup.ReadPart.the-variants.{Steps}
-use Rattle.sff.specs.Header.{headerOf, markCheck, lengthCheck, indexCheck, header}
-use Rattle.sff.specs.Read.{readEnd, framing}
-use Rattle.sff.specs.Clips.{clipsCheck}
+use Rattle.sff_fields.specs.declared.position.BasePosition.{BasePosition}
+use Rattle.sff_fields.specs.declared.parts.Read.{Read}
+use Rattle.sff_fields.specs.declared.parts.ReadPart.the-variants.{Steps}
+use Rattle.sff.specs.Header.{headerOf, header}
+use Rattle.sff_fields.specs.Header.{markCheck, lengthCheck, indexCheck, frontCheck}
+use Rattle.sff.specs.Read.{framing}
+use Rattle.sff_fields.specs.Read.{readEnd}
+use Rattle.sff_fields.specs.Clips.{clipsCheck}
 use Rattle.contents.specs.Steps.{stepsCheck}
-use Rattle.sff.specs.Walk.{front, nextRead, Passage, walk, walkPast, beforeRead}
+use Rattle.sff.specs.Walk.{firstBoundary, nextRead, Passage, walk, walkPast, beforeRead}
 use Rattle.sff.specs.Judge.{ending, judgingReads, judging}
 use Rattle.sff.specs.Lookup.{readContents, readFrom, readIn, readReading}
 use Rattle.sff.specs.Reads.{readsFrom, readsIn, readsReading}
@@ -33,17 +35,9 @@ use Rattle.sff.proofs.walk.Reach.{present-reach, framing-reach, skip-re
 use Rattle.sff.proofs.walk.Split.{walk-split, Nth, nth}
 use Rattle.sff.proofs.lookup.Laws.{number-fits}
 
-mark-none : (a b : ℕ) (s : List ℕ) → reach (markCheck a b) s ≡ 0
-unfolding markCheck
-mark-none a b s = search (reach-none, reach-must) depth 12
-
-length-none : (c : ℕ) (d : Header) (s : List ℕ) → reach (lengthCheck c d) s ≡ 0
-unfolding lengthCheck
-length-none c d s = search (reach-none, reach-must) depth 12
-
-index-none : (d : Header) (s : List ℕ) → reach (indexCheck d) s ≡ 0
-unfolding indexCheck
-index-none d s = reach-must _ _ _ s
+front-none : (mark version code : ℕ) (d : Header) (s : List ℕ) → reach (frontCheck mark version code d) s ≡ 0
+unfolding frontCheck markCheck lengthCheck indexCheck
+front-none mark version code d s = search (reach-none, reach-must) depth 12
 
 last : (r h : ℕ) → r ≡ max 31 h → 31 ≤ h → r ≡ h
 last r h q a = omega arith
@@ -54,11 +48,9 @@ unfolding header
 header-reach s d w =
     let a = bind-ok _ _ s d w in
     let b = bind-ok _ _ s d (a .2) in
-    let c = bind-ok _ _ s d (b .2) in
-    let e = bind-ok _ _ s d (c .2) in
-    let f = bind-ok _ _ s d (e .2) in
+    let f = bind-ok _ _ s d (b .2) in
     let q : headerOf (a .0) .«header_length» ≡ d .«header_length» = ap (λ (x : Header). x .«header_length») (done-ok _ d s (f .2)) in
-    let m : reach header s ≡ max 31 (headerOf (a .0) .«header_length») = simp (a .3, b .3, c .3, e .3, f .3, mark-none, length-none, index-none, reach-need, reach-done) (omega arith) in
+    let m : reach header s ≡ max 31 (headerOf (a .0) .«header_length») = simp (a .3, b .3, f .3, front-none, reach-need, reach-done) (omega arith) in
     last _ _ (m ∙ ap (max 31) q) (header-known s d w)
 
 ending-reach : (d : Header) (b : Boundary) (s : List ℕ) (x : ℕ) → answer (ending d b) s ≡ ok x → max (b .position) (reach (ending d b) s) ≡ x
@@ -75,7 +67,7 @@ record Whole (s : List ℕ) (x : ℕ) : Type 0 where
   head : Header
   head-ok : answer header s ≡ ok head
   reads : Passage
-  reads-ok : answer (walk head (head .reads) 0 (front head)) s ≡ ok reads
+  reads-ok : answer (walk head (head .reads) 0 (firstBoundary head)) s ≡ ok reads
   extends : reads .behind .position ≤ x
   needs : reach judging s ≡ x
   low : head .«header_length» ≤ x
@@ -86,7 +78,7 @@ whole s x w =
     let a = bind-ok header _ s x w in
     let b = bind-ok _ _ s x (a .2) in
     let h = header-reach s (a .0) (a .1) in
-    let g = walk-reach (a .0) s (a .0 .reads) 0 (front (a .0)) (b .0) (b .1) in
+    let g = walk-reach (a .0) s (a .0 .reads) 0 (firstBoundary (a .0)) (b .0) (b .1) in
     let e = ending-reach (a .0) (b .0 .behind) s x (b .2) in
     record { head = a .0; head-ok = a .1; reads = b .0; reads-ok = b .1; extends = omega arith; needs = simp (a .3, b .3, h) (omega arith); low = omega arith }
 
@@ -124,8 +116,8 @@ module _ (s : List ℕ) (x : ℕ) (k : Whole s x) where
   -- the reads before number n pass, and those from it on, within the extent
   record Parts (n : ℕ) : Type 0 where
     before : Passage
-    before-ok : answer (walk d (n - 1) 0 (front d)) s ≡ ok before
-    low : max (d .«header_length») (reach (walk d (n - 1) 0 (front d)) s) ≤ x
+    before-ok : answer (walk d (n - 1) 0 (firstBoundary d)) s ≡ ok before
+    low : max (d .«header_length») (reach (walk d (n - 1) 0 (firstBoundary d)) s) ≤ x
     rest : Passage
     rest-ok : (i : ℕ) → answer (walk d (leftFrom (d .reads) n) i (before .behind)) s ≡ ok rest
     within : rest .behind .position ≤ x
@@ -133,8 +125,8 @@ module _ (s : List ℕ) (x : ℕ) (k : Whole s x) where
   parts : (n : ℕ) → 1 ≤ n → n ≤ d .reads → Parts n
   parts n a b =
       let q : d .reads ≡ n - 1 + leftFrom (d .reads) n = omega arith in
-      let g = walk-split d s (n - 1) (leftFrom (d .reads) n) 0 (front d) (k .reads) (subst (λ (m : ℕ). answer (walk d m 0 (front d)) s ≡ ok (k .reads)) q (k .reads-ok)) in
-      let u = walk-reach d s (n - 1) 0 (front d) (g .first) (g .first-ok 0) in
+      let g = walk-split d s (n - 1) (leftFrom (d .reads) n) 0 (firstBoundary d) (k .reads) (subst (λ (m : ℕ). answer (walk d m 0 (firstBoundary d)) s ≡ ok (k .reads)) q (k .reads-ok)) in
+      let u = walk-reach d s (n - 1) 0 (firstBoundary d) (g .first) (g .first-ok 0) in
       let v = walk-reach d s (leftFrom (d .reads) n) 0 (g .first .behind) (g .rest) (g .rest-ok 0) in
       let z : k .reads .behind .position ≡ g .rest .behind .position = ap (λ (y : Boundary). y .position) (g .behind) in
       let e = k .extends in
@@ -146,7 +138,7 @@ module _ (s : List ℕ) (x : ℕ) (k : Whole s x) where
       reach-under x _ _ s (reach-must-under x _ _ _ s) (λ u q.
       let i = number-within n (d .reads) (must-ok _ _ 7 s u q) in
       let l = parts n (i .0) (i .1) .low in
-      rw (reach-at 0 (walkPast d (n - 1) 0 (front d)) s) (reach-under x _ _ s (omega arith) (λ _ _. reach-done-under x _ s)))
+      rw (reach-at 0 (walkPast d (n - 1) 0 (firstBoundary d)) s) (reach-under x _ _ s (omega arith) (λ _ _. reach-done-under x _ s)))
 
   -- the boundary before read n is where the reads before it end
   before-same : (n : ℕ) (b : Boundary) → answer (beforeRead d n) s ≡ ok b → (p : Parts n) × (p .before .behind ≡ b)
@@ -181,12 +173,12 @@ module _ (s : List ℕ) (x : ℕ) (k : Whole s x) where
   unfolding readsFrom
   reads-from-under n i h =
       let q : d .reads ≡ i + n + (d .reads - (i + n)) = omega arith in
-      let g = walk-split d s (i + n) (d .reads - (i + n)) 0 (front d) (k .reads) (subst (λ (m : ℕ). answer (walk d m 0 (front d)) s ≡ ok (k .reads)) q (k .reads-ok)) in
-      let u = walk-reach d s (i + n) 0 (front d) (g .first) (g .first-ok 0) in
+      let g = walk-split d s (i + n) (d .reads - (i + n)) 0 (firstBoundary d) (k .reads) (subst (λ (m : ℕ). answer (walk d m 0 (firstBoundary d)) s ≡ ok (k .reads)) q (k .reads-ok)) in
+      let u = walk-reach d s (i + n) 0 (firstBoundary d) (g .first) (g .first-ok 0) in
       let v = walk-reach d s (d .reads - (i + n)) 0 (g .first .behind) (g .rest) (g .rest-ok 0) in
       let z : k .reads .behind .position ≡ g .rest .behind .position = ap (λ (y : Boundary). y .position) (g .behind) in
       let e = k .extends in
-      reach-under x _ _ s (rw (reach-at 0 (walk d (i + n) 0 (front d)) s) (omega (arith, u, v, z, e))) (λ w o.
+      reach-under x _ _ s (rw (reach-at 0 (walk d (i + n) 0 (firstBoundary d)) s) (omega (arith, u, v, z, e))) (λ w o.
       let t : g .first ≡ w = ok-inj (sym (g .first-ok 0) ∙ at-ok 0 _ s w o) in
       let p : w .behind .position ≤ x = subst (λ (y : Passage). y .behind .position ≤ x) t (omega (arith, v, z, e)) in
       reach-under x _ _ s (reach-need-under x _ _ s p) (λ _ _. reach-done-under x _ s))

@@ -7,15 +7,17 @@ use lib.Dec.{leb}
 use Rattle.reading.specs.Bulk.{leftFrom, fitting}
 use Rattle.reading.specs.Check.{holds}
 use Rattle.reading.proofs.Refused.{Refuses, refuses-done, refuses-must, refuses-need, refuses-bind, refuses-pick, refuses-at}
-use Rattle.sff.specs.declared.header.Header.{Header}
-use Rattle.sff.specs.declared.read.ReadHeader.{ReadHeader}
-use Rattle.sff.specs.declared.position.BasePosition.{BasePosition}
+use Rattle.sff_fields.specs.declared.header.Header.{Header}
+use Rattle.sff_fields.specs.declared.read.ReadHeader.{ReadHeader}
+use Rattle.sff_fields.specs.declared.position.BasePosition.{BasePosition}
 use Rattle.sff.specs.declared.walk.Boundary.{Boundary}
-use Rattle.sff.specs.Header.{header, markCheck, lengthCheck, indexCheck}
-use Rattle.sff.specs.Read.{present, framing}
-use Rattle.sff.specs.Walk.{front, skipIndex, nextRead, walk, walkPast, beforeRead}
+use Rattle.sff.specs.Header.{header}
+use Rattle.sff_fields.specs.Header.{markCheck, lengthCheck, indexCheck, frontCheck}
+use Rattle.sff_fields.specs.Read.{readLengthCheck}
+use Rattle.sff.specs.Read.{presentData, presentRead, framing}
+use Rattle.sff.specs.Walk.{firstBoundary, skipIndex, nextRead, walk, walkPast, beforeRead}
 use Rattle.sff.specs.Judge.{ending, judgingReads, judging}
-use Rattle.sff.specs.Clips.{clipsCheck}
+use Rattle.sff_fields.specs.Clips.{clipsCheck}
 use Rattle.contents.specs.Steps.{stepsCheck}
 use Rattle.sff.specs.Lookup.{readContents, readFrom, readIn, readReading}
 use Rattle.sff.specs.Reads.{readsFrom, readsIn, readsReading}
@@ -28,11 +30,11 @@ module _ (P : ℕ → ℕ → Type 0) (s : List ℕ) where
 
   module _ (cut : P 1 0) where
     pub header-refuses : P 2 0 → P 3 0 → P 4 0 → Refuses P header s
-    unfolding header markCheck lengthCheck indexCheck
+    unfolding header frontCheck markCheck lengthCheck indexCheck
     header-refuses a b c = search (refuses-bind, refuses-must, refuses-need, refuses-done, cut, a, b, c) depth 14
 
-    present-refuses : P 9 0 → (f p : ℕ) → Refuses P (present f p) s
-    unfolding present
+    present-refuses : P 9 0 → (f p : ℕ) → Refuses P (presentRead f p) s
+    unfolding presentRead presentData readLengthCheck
     present-refuses a f p = search (refuses-bind, refuses-must, refuses-need, refuses-done, cut, a) depth 14
 
     read-from-refuses : P 9 0 → P 11 0 → (f p : ℕ) → Refuses P (readFrom f p) s
@@ -61,14 +63,14 @@ module _ (P : ℕ → ℕ → Type 0) (s : List ℕ) (cut : (e : ℕ) → P 1 e)
   unfolding judging judgingReads ending
   judging-refuses a b c =
       refuses-bind P _ _ s (header-refuses P s (cut 0) a b c) (λ d _.
-      refuses-bind P _ _ s (walk-refuses d (d .reads) 0 (front d)) (λ w _.
+      refuses-bind P _ _ s (walk-refuses d (d .reads) 0 (firstBoundary d)) (λ w _.
       refuses-bind P _ _ s (skip-refuses P s (cut 0) d (w .behind)) (λ e _.
       refuses-bind P _ _ s (refuses-must P _ _ 4 s (λ _. c)) (λ _ _. refuses-done P _ s))))
 
 -- the calls that report no read
 module _ (P : ℕ → ℕ → Type 0) (s : List ℕ) (cut : P 1 0) (mark : P 2 0) (version : P 3 0) (field : P 4 0) (absent : P 7 0) (length : P 9 0) where
-  walk-at : (d : Header) (n : ℕ) → Refuses (λ k _. P k 0) (walk d n 0 (front d)) s
-  walk-at d n = walk-refuses (λ k _. P k 0) s (λ _. cut) (λ _. length) d n 0 (front d)
+  walk-at : (d : Header) (n : ℕ) → Refuses (λ k _. P k 0) (walk d n 0 (firstBoundary d)) s
+  walk-at d n = walk-refuses (λ k _. P k 0) s (λ _. cut) (λ _. length) d n 0 (firstBoundary d)
 
   pub reads-refuses : (first room : ℕ) → (leb 17 room ≡ false → P 13 0) → Refuses P (readsReading first room) s
   unfolding readsReading readsIn readsFrom holds

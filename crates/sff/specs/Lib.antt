@@ -1,9 +1,9 @@
-pub mod Padding
 pub mod Header
 pub mod Read
 pub mod Walk
 pub mod Judge
-pub mod Clips
 pub mod Lookup
 pub mod Reads
 pub mod Flow
+pub mod Answers
+pub mod Private

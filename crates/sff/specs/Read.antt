@@ -1,74 +1,50 @@
 -- SFF: a read's header, and the checks of where a read ends, in document 01's order.
-use Prim.Native.Nat.{ℕ, _+_, _*_}
+use Prim.Native.Nat.{ℕ, _+_}
 use mathlib.Core.List.{List}
 use Rattle.reading.specs.Number.{be}
-use Rattle.reading.specs.declared.check.Field.{Field}
-use Rattle.reading.specs.declared.check.Rule.the-variants.{EqualTo}
-use Rattle.reading.specs.Check.{Check, Outcome, passed, failed, short, unsignedField, done, must, need, _>>=_, _>>_}
-use Rattle.sff.specs.declared.read.ReadHeader.{ReadHeader}
-use Rattle.sff.specs.declared.read.Framed.{Framed}
-use Rattle.sff.specs.declared.read.Framed.the-variants.{End, Bad, Short}
-use Rattle.sff.specs.Padding.{padded}
+use Rattle.reading.specs.Check.{Check, done, need, _>>=_, _>>_}
+use Rattle.sff_fields.specs.declared.read.ReadHeader.{ReadHeader}
+use Rattle.sff_fields.specs.Read.{readFrontLength, readLengthCheck, dataStart, readEnd}
 
--- the fields of the read that starts at place p
-unfoldable pub readHeaderOf : List ℕ → ℕ → ReadHeader
-readHeaderOf h p =
+-- header length u16, name length u16, bases u32, quality clip left, right, adapter clip left, right (u16), of a read that starts at `start`
+unfoldable pub readHeaderAt : ℕ → List ℕ → ℕ → ReadHeader
+readHeaderAt start bytes place =
     record {
-      start = p;
-      «header_length» = be 2 h p;
-      «name_length» = be 2 h (p + 2);
-      bases = be 4 h (p + 4);
-      «quality_left» = be 2 h (p + 8);
-      «quality_right» = be 2 h (p + 10);
-      «adapter_left» = be 2 h (p + 12);
-      «adapter_right» = be 2 h (p + 14);
+      start = start;
+      «header_length» = be 2 bytes place;
+      «name_length» = be 2 bytes (place + 2);
+      bases = be 4 bytes (place + 4);
+      «quality_left» = be 2 bytes (place + 8);
+      «quality_right» = be 2 bytes (place + 10);
+      «adapter_left» = be 2 bytes (place + 12);
+      «adapter_right» = be 2 bytes (place + 14);
     }
 
-abbrev pub headerLength : ReadHeader → Field
-headerLength d = unsignedField 2 (d .start) (d .«header_length»)
-
--- where a read's data start, and where the read ends, in a file of f flows
-abbrev pub dataStart : ReadHeader → ℕ
-dataStart d = d .start + d .«header_length»
-
-abbrev pub readEnd : ℕ → ReadHeader → ℕ
-readEnd f d = dataStart d + padded (2 * f + 3 * d .bases)
-
--- where the parts of a read's data start, in a file of f flows
-abbrev pub flowsStart : ReadHeader → ℕ
-flowsStart d = dataStart d
-
-abbrev pub stepsStart : ℕ → ReadHeader → ℕ
-stepsStart f d = flowsStart d + 2 * f
-
-abbrev pub lettersStart : ℕ → ReadHeader → ℕ
-lettersStart f d = stepsStart f d + d .bases
-
-abbrev pub qualitiesStart : ℕ → ReadHeader → ℕ
-qualitiesStart f d = lettersStart f d + d .bases
+-- the fields of the read that starts at this place of the file
+abbrev pub readHeaderOf : List ℕ → ℕ → ReadHeader
+readHeaderOf bytes place = readHeaderAt place bytes place
 
 -- a read that is there: its header, and the bytes up to its end
-pub record Present : Type 0 where
+pub record PresentRead : Type 0 where
   pub fields : ReadHeader
   pub upTo : List ℕ
 
--- the checks of the read that starts at place p
-unfoldable pub present : ℕ → ℕ → Check Present
-present f p = do
-  h ← need p (p + 16)
-  must (headerLength (readHeaderOf h p)) (EqualTo (padded (16 + readHeaderOf h p .«name_length»))) 9
-  _ ← need p (dataStart (readHeaderOf h p))
-  l ← need (dataStart (readHeaderOf h p)) (readEnd f (readHeaderOf h p))
-  done (record { fields = readHeaderOf h p; upTo = l })
+-- header length 9; header present 1; data present 1
+unfoldable pub presentData : ℕ → ReadHeader → Check PresentRead
+presentData flows read = do
+  readLengthCheck read
+  _ ← need (read .start) (dataStart read)
+  upTo ← need (dataStart read) (readEnd flows read)
+  done (record { fields = read; upTo = upTo })
+
+-- the checks of the read that starts at this place: 16 bytes present 1, then those
+unfoldable pub presentRead : ℕ → ℕ → Check PresentRead
+presentRead flows place = do
+  front ← need place (place + readFrontLength)
+  presentData flows (readHeaderOf front place)
 
 -- the same checks; where the read ends
 unfoldable pub framing : ℕ → ℕ → Check ℕ
-framing f p = do
-  r ← present f p
-  done (readEnd f (r .fields))
-
--- what each case stands for
-abbrev pub framed : Framed → Outcome ℕ
-framed (End m) = passed m
-framed (Bad w) = failed w 0
-framed (Short p m) = short (record { start = p; end = m }) 0
+framing flows place = do
+  read ← presentRead flows place
+  done (readEnd flows (read .fields))

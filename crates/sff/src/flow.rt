@@ -1,15 +1,16 @@
 // The flow of a base.
-use crate::lookup::Found;
-use crate::lookup::Read;
 use crate::lookup::read_number;
-use crate::position::BasePosition;
-use crate::position::FlowPosition;
 use contents::steps::sum_of;
+use sff_fields::parts::Read;
+use sff_fields::position::BasePosition;
+use sff_fields::position::FlowPosition;
+use sff_fields::record::ReadFound;
 ghost use mathlib.Core.Path.{_≡_};
 ghost use Prim.Native.Nat.{_+_, _≤_};
 ghost use lib.ListN.{length};
 ghost use Rattle.reading.specs.Check.{answer};
-ghost use Rattle.sff.specs.Flow.{flowOf, flowReading, flow};
+ghost use Rattle.sff.specs.Flow.{flowOf, flowReading};
+ghost use Rattle.sff.specs.Answers.{answerOfFlow};
 
 // The position of a base's flow, or the refusal.
 pub enum Flow {
@@ -19,7 +20,7 @@ pub enum Flow {
 
 fn flow_in(s: &[u8], r: Read, base: BasePosition) -> Flow
     requires { ⌜ r .«steps_start» + r .bases ≤ length (now s) ⌝ }
-    ensures { λ f. ⌜ flow f ≡ answer (flowOf r base) (now (s .entry)) ⌝ }
+    ensures { λ f. ⌜ answerOfFlow f ≡ answer (flowOf r base) (now (s .entry)) ⌝ }
 {
     let i = base.0;
     if i < 1 {
@@ -35,10 +36,10 @@ fn flow_in(s: &[u8], r: Read, base: BasePosition) -> Flow
 
 // The flow of base `base` of read k.
 pub fn flow_of_base(s: &[u8], k: u64, base: BasePosition) -> Flow
-    ensures { λ r. ⌜ flow r ≡ answer (flowReading k base) (now (s .entry)) ⌝ }
+    ensures { λ r. ⌜ answerOfFlow r ≡ answer (flowReading k base) (now (s .entry)) ⌝ }
 {
     match read_number(s, k) {
-        Found::Refused(n) => Flow::Refused(n),
-        Found::At(r) => flow_in(s, r, base),
+        ReadFound::Refused(n) => Flow::Refused(n),
+        ReadFound::At(r) => flow_in(s, r, base),
     }
 }

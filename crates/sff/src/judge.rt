@@ -1,5 +1,4 @@
 // Judging.
-use crate::header::Header;
 use crate::header::HeaderRead;
 use crate::header::read_header;
 use crate::walk::Boundary;
@@ -8,21 +7,20 @@ use crate::walk::Walked;
 use crate::walk::skip_index;
 use crate::walk::walk;
 use reading::check::Explanation;
-use reading::check::Field;
 use reading::check::Rule;
 use reading::check::Test;
+use reading::verdict::Verdict;
+use reading::verdict::verdict_of;
+use sff_fields::header::Header;
+use sff_fields::header::IS_MET;
+use sff_fields::header::index_offset_field;
 ghost use mathlib.Core.Path.{_≡_};
 ghost use Prim.Native.Nat.{_≤_};
 ghost use lib.ListN.{length};
 ghost use Rattle.reading.specs.Check.{run, answer};
 ghost use Rattle.reading.specs.Explain.{explanationOf};
-ghost use Rattle.sff.specs.Judge.{ending, judging, judgingReads, verdict};
-
-// What judging finds: the file is whole, with its extent; or the refusal and its read.
-pub enum Verdict {
-    Whole(usize),
-    Refused { number: u8, read: usize },
-}
+ghost use Rattle.reading.specs.Answers.{answerOfVerdict};
+ghost use Rattle.sff.specs.Judge.{ending, judging, judgingReads};
 
 // What stands behind the last read.
 fn explain_ending(s: &[u8], d: Header, b: Boundary) -> Explanation
@@ -43,15 +41,9 @@ fn explain_ending(s: &[u8], d: Header, b: Boundary) -> Explanation
             if c.met {
                 return Explanation::Whole(extent);
             }
-            let field = Field {
-                place: 8,
-                width: 8,
-                sign: false,
-                value: d.index_offset,
-            };
             let test = Test {
-                field,
-                rule: Rule::Other(2, false),
+                field: index_offset_field(d),
+                rule: Rule::Other(IS_MET, false),
                 number: 4,
             };
             Explanation::Failed { test, entry: 0 }
@@ -93,26 +85,9 @@ fn explain(s: &[u8]) -> Explanation
     }
 }
 
+// Judging: the file's extent, or the first refusal.
 pub fn judge(s: &[u8]) -> Verdict
-    ensures { λ r. ⌜ verdict r ≡ answer judging (now (s .entry)) ⌝ }
+    ensures { λ r. ⌜ answerOfVerdict r ≡ answer judging (now (s .entry)) ⌝ }
 {
-    match explain(s) {
-        Explanation::Whole(x) => Verdict::Whole(x),
-        Explanation::Failed { test, entry } => Verdict::Refused {
-            number: test.number,
-            read: entry,
-        },
-        Explanation::Short {
-            start: _,
-            least: _,
-            entry,
-        } => Verdict::Refused {
-            number: 1,
-            read: entry,
-        },
-        Explanation::Beyond { start: _, entry } => Verdict::Refused {
-            number: 1,
-            read: entry,
-        },
-    }
+    verdict_of(explain(s))
 }

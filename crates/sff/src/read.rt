@@ -1,85 +1,55 @@
 // A read's header, and where a read ends.
-use crate::padding::round_up;
-use reading::check::Field;
-use reading::check::Rule;
-use reading::check::Test;
+use reading::check::Ended;
+use reading::check::Tested;
 use reading::number::be16;
 use reading::number::be32;
+use sff_fields::read::READ_FRONT_LENGTH;
+use sff_fields::read::ReadHeader;
+use sff_fields::read::data_length;
+use sff_fields::read::read_length_tests;
 ghost use mathlib.Core.Path.{_≡_};
-ghost use Prim.Native.Nat.{_<_, _≤_};
+ghost use Prim.Native.Nat.{_≤_};
 ghost use lib.ListN.{length};
 ghost use Rattle.reading.specs.Check.{run};
-ghost use Rattle.sff.specs.Read.{readHeaderOf, framing, framed};
+ghost use Rattle.reading.specs.Answers.{outcomeOfEnded};
+ghost use Rattle.sff.specs.Read.{readHeaderAt, framing};
 
-// The fields of a read's header, and where the read starts.
-pub struct ReadHeader {
-    pub start: usize,
-    pub header_length: u16,
-    pub name_length: u16,
-    pub bases: u32,
-    pub quality_left: u16,
-    pub quality_right: u16,
-    pub adapter_left: u16,
-    pub adapter_right: u16,
-}
-
-// Where a read ends; or the test that fails, or the bytes that are missing, by their start and end.
-pub(crate) enum Framed {
-    End(usize),
-    Bad(Test),
-    Short(usize, usize),
-}
-
+// The fields of a read that starts at p, from the bytes of its header.
 pub(crate) fn read_header_of(h: &[u8], p: usize) -> ReadHeader
-    requires { ⌜ p < 0x8000000000000000 ⌝ }
-    ensures { λ r. ⌜ r ≡ readHeaderOf (now (h .entry)) p ⌝ }
+    ensures { λ r. ⌜ r ≡ readHeaderAt p (now (h .entry)) 0 ⌝ }
 {
     ReadHeader {
         start: p,
-        header_length: be16(h, p),
-        name_length: be16(h, p + 2),
-        bases: be32(h, p + 4),
-        quality_left: be16(h, p + 8),
-        quality_right: be16(h, p + 10),
-        adapter_left: be16(h, p + 12),
-        adapter_right: be16(h, p + 14),
+        header_length: be16(h, 0),
+        name_length: be16(h, 2),
+        bases: be32(h, 4),
+        quality_left: be16(h, 8),
+        quality_right: be16(h, 10),
+        adapter_left: be16(h, 12),
+        adapter_right: be16(h, 14),
     }
 }
 
-// Where the read that starts at p ends. Only the fields that are compared are read, from a part of fixed length.
-pub(crate) fn frame(s: &[u8], flows: u16, p: usize) -> Framed
+// Where the read that starts at p ends.
+pub(crate) fn frame(s: &[u8], flows: u16, p: usize) -> Ended
     requires { ⌜ p ≤ length (now s) ⌝ }
-    ensures { λ r. ⌜ framed r ≡ run (framing flows p) (now (s .entry)) ⌝ }
+    ensures { λ r. ⌜ outcomeOfEnded r ≡ run (framing flows p) (now (s .entry)) ⌝ }
 {
-    let fixed = p + 16;
+    let fixed = p + READ_FRONT_LENGTH;
     if s.len() < fixed {
-        return Framed::Short(p, fixed);
+        return Ended::Short(p, fixed);
     }
-    let h = &s[p..fixed];
-    let stated = be16(h, 0) as usize;
-    let name = be16(h, 2) as usize;
-    let bases = be32(h, 4) as usize;
-    let expected = round_up(16 + name);
-    if stated != expected {
-        let field = Field {
-            place: p,
-            width: 2,
-            sign: false,
-            value: stated as u64,
-        };
-        return Framed::Bad(Test {
-            field,
-            rule: Rule::EqualTo(expected as u64),
-            number: 9,
-        });
+    let d = read_header_of(&s[p..fixed], p);
+    if let Tested::Failed(t) = read_length_tests(d) {
+        return Ended::Failed(t);
     }
-    let start = p + stated;
+    let start = p + d.header_length as usize;
     if s.len() < start {
-        return Framed::Short(p, start);
+        return Ended::Short(p, start);
     }
-    let end = start + round_up(2 * flows as usize + 3 * bases);
+    let end = start + data_length(flows, d.bases);
     if s.len() < end {
-        return Framed::Short(start, end);
+        return Ended::Short(start, end);
     }
-    Framed::End(end)
+    Ended::At(end)
 }

@@ -1,9 +1,6 @@
 // Reads, many at once.
-use crate::header::Header;
-use crate::header::Opened;
+use crate::header::HeaderFound;
 use crate::header::read_fields;
-use crate::lookup::Found;
-use crate::lookup::Read;
 use crate::lookup::read_from;
 use crate::walk::Boundary;
 use crate::walk::Step;
@@ -11,20 +8,22 @@ use crate::walk::Walked;
 use crate::walk::next_read;
 use crate::walk::walk;
 use reading::bulk::Copied;
-use reading::bulk::put_four;
 use reading::order::smaller;
+use sff_fields::header::Header;
+use sff_fields::record::RECORD_WIDTH;
+use sff_fields::record::put_record;
 ghost use mathlib.Core.Path.{_≡_};
 ghost use mathlib.Core.List.{_++_};
 ghost use Prim.Native.Nat.{_+_, _-_, _*_, _≤_, _<_};
-ghost use lib.ListN.{length, take, drop};
-ghost use lib.Seq.{sets};
-ghost use Rattle.reading.specs.Check.{passed, ok, refused, run, answer, mapAnswer};
+ghost use lib.ListN.{length, drop};
+ghost use Rattle.reading.specs.Check.{passed, ok, run, answer, mapAnswer};
 ghost use Rattle.reading.specs.Lent.{filled};
-ghost use Rattle.reading.specs.Bulk.{recordOf, records};
+ghost use Rattle.reading.specs.Bulk.{records};
 ghost use Rattle.reading.specs.Answers.{answerOfCopied};
+ghost use Rattle.sff_fields.specs.Parts.{recordWidth, readNumbers};
 ghost use Rattle.sff.specs.Walk.{Placed, Passage, nextRead, walk as walking};
-ghost use Rattle.sff.specs.Lookup.{found};
-ghost use Rattle.sff.specs.Reads.{readsAt, readsFrom, readsIn, readsReading, readNumbers};
+ghost use Rattle.sff.specs.Reads.{readsFrom, readsIn, readsReading};
+ghost use Rattle.sff.specs.Private.{Passes, recorded};
 
 // A sound read's place, with the boundary behind it.
 struct Sound {
@@ -54,107 +53,31 @@ fn sound_read(s: &[u8], d: Header, b: Boundary) -> Sound
     }
 }
 
-// The first nine numbers of the record of a read that is answered, from place p of the output on: no refusal, and its header.
-fn put_header(out: &mut [u64], p: usize, r: Read)
-    requires { ⌜ p + 9 ≤ length (now out) ⌝ }
-    ensures { λ _. ⌜ now (out .exit) ≡ sets (now (out .entry)) p (take 9 (recordOf 17 readNumbers (ok r))) ⌝ }
-{
-    out[p] = 0;
-    put_four(
-        out,
-        p + 1,
-        r.start as u64,
-        r.name_start as u64,
-        r.name_length as u64,
-        r.bases as u64,
-    );
-    put_four(
-        out,
-        p + 5,
-        r.quality_left as u64,
-        r.quality_right as u64,
-        r.adapter_left as u64,
-        r.adapter_right as u64,
-    );
-}
-
-// The other eight: where its parts start, and its insert.
-fn put_parts(out: &mut [u64], p: usize, r: Read)
-    requires { ⌜ p + 8 ≤ length (now out) ⌝ }
-    ensures { λ _. ⌜ now (out .exit) ≡ sets (now (out .entry)) p (drop 9 (recordOf 17 readNumbers (ok r))) ⌝ }
-{
-    put_four(
-        out,
-        p,
-        r.flows_start as u64,
-        r.steps_start as u64,
-        r.letters_start as u64,
-        r.qualities_start as u64,
-    );
-    let first = r.first;
-    let last = r.last;
-    put_four(
-        out,
-        p + 4,
-        first.0,
-        last.0,
-        r.insert_start as u64,
-        r.insert_length as u64,
-    );
-}
-
-fn put_read(out: &mut [u64], p: usize, r: Read)
-    requires { ⌜ p + 17 ≤ length (now out) ⌝ }
-    ensures { λ _. ⌜ now (out .exit) ≡ sets (now (out .entry)) p (recordOf 17 readNumbers (ok r)) ⌝ }
-{
-    put_header(out, p, r);
-    put_parts(out, p + 9, r);
-}
-
-// The record of a read that is refused.
-fn put_refused(out: &mut [u64], p: usize, n: u8)
-    requires { ⌜ p + 17 ≤ length (now out) ⌝ }
-    ensures { λ _. ⌜ now (out .exit) ≡ sets (now (out .entry)) p (recordOf 17 readNumbers (refused n 0)) ⌝ }
-{
-    out[p] = n as u64;
-    put_four(out, p + 1, 0, 0, 0, 0);
-    put_four(out, p + 5, 0, 0, 0, 0);
-    put_four(out, p + 9, 0, 0, 0, 0);
-    put_four(out, p + 13, 0, 0, 0, 0);
-}
-
-fn put_found(out: &mut [u64], p: usize, f: Found)
-    requires { ⌜ p + 17 ≤ length (now out) ⌝ }
-    ensures { λ _. ⌜ now (out .exit) ≡ sets (now (out .entry)) p (recordOf 17 readNumbers (found f)) ⌝ }
-{
-    match f {
-        Found::At(r) => put_read(out, p, r),
-        Found::Refused(n) => put_refused(out, p, n),
-    }
-}
-
 // The records of n reads behind boundary b, which a walk has found sound, at the output's front.
 fn put_reads(s: &[u8], d: Header, n: usize, b: Boundary, out: &mut [u64])
-    requires { ⌜ (b .position ≤ length (now s)) × (17 * n ≤ length (now out)) × ((w : Passage) × (answer (walking d n 0 b) (now s) ≡ ok w)) ⌝ }
-    ensures { λ _. ⌜ ((w : Passage) → answer (walking d n 0 b) (now (s .entry)) ≡ ok w → now (out .exit) ≡ records 17 readNumbers (readsAt (d .flows) (now (s .entry)) (w .starts)) ++ drop (17 * n) (now (out .entry))) ⌝ }
+    requires { ⌜ (b .position ≤ length (now s)) × (recordWidth * n ≤ length (now out)) × Passes d (now s) n b ⌝ }
+    ensures { λ _. ⌜ ((w : Passage) → answer (walking d n 0 b) (now (s .entry)) ≡ ok w
+        → now (out .exit) ≡ recorded d (now (s .entry)) w ++ drop (recordWidth * n) (now (out .entry))) ⌝ }
 {
     let mut here = b;
     let mut p = 0;
     let mut i = 0;
     while i < n {
         let read = sound_read(s, d, here);
-        put_found(out, p, read_from(s, d.flows, read.start));
+        put_record(out, p, read_from(s, d.flows, read.start));
         here = read.behind;
-        p += 17;
+        p += RECORD_WIDTH;
         i += 1;
     }
 }
 
 // The records of n sound reads behind b and of n behind c, in turns, so that neither waits for what the other loads; the boundary behind the last.
 fn put_pairs(s: &[u8], d: Header, n: usize, b: Boundary, c: Boundary, out: &mut [u64]) -> Boundary
-    requires { ⌜ (b .position ≤ length (now s)) × (c .position ≤ length (now s)) × (17 * n + 17 * n ≤ length (now out)) × ((w : Passage) × (answer (walking d n 0 b) (now s) ≡ ok w)) × ((v : Passage) × (answer (walking d n 0 c) (now s) ≡ ok v)) ⌝ }
+    requires { ⌜ (b .position ≤ length (now s)) × (c .position ≤ length (now s)) × (recordWidth * n + recordWidth * n ≤ length (now out))
+        × Passes d (now s) n b × Passes d (now s) n c ⌝ }
     ensures { λ r. ⌜ ((v : Passage) → answer (walking d n 0 c) (now (s .entry)) ≡ ok v → r ≡ v .behind) ⌝ }
-    ensures { λ _. ⌜ ((w v : Passage) → answer (walking d n 0 b) (now (s .entry)) ≡ ok w → answer (walking d n 0 c) (now (s .entry)) ≡ ok v → now (out .exit) ≡ records 17 readNumbers (readsAt (d .flows) (now (s .entry)) (w .starts)) ++ (records 17 readNumbers (readsAt (d .flows) (now (s .entry)) (v .starts)) ++ drop (17 * n + 17 * n) (now (out .entry)))) ⌝ }
+    ensures { λ _. ⌜ ((w v : Passage) → answer (walking d n 0 b) (now (s .entry)) ≡ ok w → answer (walking d n 0 c) (now (s .entry)) ≡ ok v
+        → now (out .exit) ≡ recorded d (now (s .entry)) w ++ (recorded d (now (s .entry)) v ++ drop (recordWidth * n + recordWidth * n) (now (out .entry)))) ⌝ }
 {
     let mut here = b;
     let mut there = c;
@@ -162,8 +85,12 @@ fn put_pairs(s: &[u8], d: Header, n: usize, b: Boundary, c: Boundary, out: &mut 
     while i < n {
         let one = sound_read(s, d, here);
         let other = sound_read(s, d, there);
-        put_found(out, 17 * i, read_from(s, d.flows, one.start));
-        put_found(out, 17 * n + 17 * i, read_from(s, d.flows, other.start));
+        put_record(out, RECORD_WIDTH * i, read_from(s, d.flows, one.start));
+        put_record(
+            out,
+            RECORD_WIDTH * n + RECORD_WIDTH * i,
+            read_from(s, d.flows, other.start),
+        );
         here = one.behind;
         there = other.behind;
         i += 1;
@@ -173,19 +100,21 @@ fn put_pairs(s: &[u8], d: Header, n: usize, b: Boundary, c: Boundary, out: &mut 
 
 // The records of n sound reads behind b, where m of them, not more than half, stand before boundary c.
 fn put_halves(s: &[u8], d: Header, n: usize, m: usize, b: Boundary, c: Boundary, out: &mut [u64])
-    requires { ⌜ (b .position ≤ length (now s)) × (c .position ≤ length (now s)) × (m + m ≤ n) × (17 * n ≤ length (now out)) × ((w : Passage) × (answer (walking d m 0 b) (now s) ≡ ok w) × (w .behind ≡ c)) × ((v : Passage) × (answer (walking d (n - m) 0 c) (now s) ≡ ok v)) ⌝ }
-    ensures { λ _. ⌜ ((w : Passage) → answer (walking d n 0 b) (now (s .entry)) ≡ ok w → now (out .exit) ≡ records 17 readNumbers (readsAt (d .flows) (now (s .entry)) (w .starts)) ++ drop (17 * n) (now (out .entry))) ⌝ }
+    requires { ⌜ (b .position ≤ length (now s)) × (c .position ≤ length (now s)) × (m + m ≤ n) × (recordWidth * n ≤ length (now out))
+        × ((w : Passage) × (answer (walking d m 0 b) (now s) ≡ ok w) × (w .behind ≡ c)) × Passes d (now s) (n - m) c ⌝ }
+    ensures { λ _. ⌜ ((w : Passage) → answer (walking d n 0 b) (now (s .entry)) ≡ ok w
+        → now (out .exit) ≡ recorded d (now (s .entry)) w ++ drop (recordWidth * n) (now (out .entry))) ⌝ }
 {
     let behind = put_pairs(s, d, m, b, c, out);
-    let start = 17 * m + 17 * m;
+    let start = RECORD_WIDTH * m + RECORD_WIDTH * m;
     put_reads(s, d, n - m - m, behind, &mut out[start..]);
 }
 
 // The n reads from read i on, counted from 0: walked to the last of them, then written.
 fn reads_from(s: &[u8], d: Header, n: usize, i: usize, out: &mut [u64]) -> Copied
-    requires { ⌜ (d .«header_length» ≤ length (now s)) × (i + n < 0x8000000000000000) × (17 * n ≤ length (now out)) ⌝ }
+    requires { ⌜ (d .«header_length» ≤ length (now s)) × (i + n < 0x8000000000000000) × (recordWidth * n ≤ length (now out)) ⌝ }
     ensures { λ r. ⌜ answerOfCopied r ≡ mapAnswer length (answer (readsFrom d n i) (now (s .entry))) ⌝ }
-    ensures { λ _. ⌜ now (out .exit) ≡ filled (mapAnswer (records 17 readNumbers) (answer (readsFrom d n i) (now (s .entry)))) (now (out .entry)) ⌝ }
+    ensures { λ _. ⌜ now (out .exit) ≡ filled (mapAnswer (records recordWidth readNumbers) (answer (readsFrom d n i) (now (s .entry)))) (now (out .entry)) ⌝ }
 {
     let half = n / 2;
     let front = Boundary {
@@ -213,7 +142,8 @@ fn reads_from(s: &[u8], d: Header, n: usize, i: usize, out: &mut [u64]) -> Copie
 fn reads_in(s: &[u8], d: Header, first: u64, out: &mut [u64]) -> Copied
     requires { ⌜ d .«header_length» ≤ length (now s) ⌝ }
     ensures { λ r. ⌜ answerOfCopied r ≡ mapAnswer length (answer (readsIn d first (length (now (out .entry)))) (now (s .entry))) ⌝ }
-    ensures { λ _. ⌜ now (out .exit) ≡ filled (mapAnswer (records 17 readNumbers) (answer (readsIn d first (length (now (out .entry)))) (now (s .entry)))) (now (out .entry)) ⌝ }
+    ensures { λ _. ⌜ now (out .exit)
+        ≡ filled (mapAnswer (records recordWidth readNumbers) (answer (readsIn d first (length (now (out .entry)))) (now (s .entry)))) (now (out .entry)) ⌝ }
 {
     if first < 1 {
         return Copied::Refused(7);
@@ -221,21 +151,22 @@ fn reads_in(s: &[u8], d: Header, first: u64, out: &mut [u64]) -> Copied
     if (d.reads as u64) < first {
         return Copied::Refused(7);
     }
-    if out.len() < 17 {
+    if out.len() < RECORD_WIDTH {
         return Copied::Refused(13);
     }
     let before = (first - 1) as usize;
-    let n = smaller(d.reads as usize - before, out.len() / 17);
+    let n = smaller(d.reads as usize - before, out.len() / RECORD_WIDTH);
     reads_from(s, d, n, before, out)
 }
 
 // The reads from number `first` on, as many as are left and as fit, at the output's front: 17 numbers for each.
 pub fn read_many(s: &[u8], first: u64, out: &mut [u64]) -> Copied
     ensures { λ r. ⌜ answerOfCopied r ≡ mapAnswer length (answer (readsReading first (length (now (out .entry)))) (now (s .entry))) ⌝ }
-    ensures { λ _. ⌜ now (out .exit) ≡ filled (mapAnswer (records 17 readNumbers) (answer (readsReading first (length (now (out .entry)))) (now (s .entry)))) (now (out .entry)) ⌝ }
+    ensures { λ _. ⌜ now (out .exit)
+        ≡ filled (mapAnswer (records recordWidth readNumbers) (answer (readsReading first (length (now (out .entry)))) (now (s .entry)))) (now (out .entry)) ⌝ }
 {
     match read_fields(s) {
-        Opened::Refused(n) => Copied::Refused(n),
-        Opened::At(d) => reads_in(s, d, first, out),
+        HeaderFound::Refused(n) => Copied::Refused(n),
+        HeaderFound::At(d) => reads_in(s, d, first, out),
     }
 }

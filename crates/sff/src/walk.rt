@@ -1,14 +1,15 @@
 // The walk over the reads, from boundary to boundary.
-use crate::header::Header;
-use crate::padding::round_up;
-use crate::read::Framed;
 use crate::read::frame;
+use reading::check::Ended;
 use reading::check::Test;
+use sff_fields::header::Header;
+use sff_fields::header::index_size;
 ghost use mathlib.Core.Path.{_≡_};
 ghost use Prim.Native.Nat.{ℕ, _+_, _≤_, _<_};
 ghost use lib.ListN.{length};
 ghost use Rattle.reading.specs.Check.{run, answer};
-ghost use Rattle.sff.specs.Walk.{skipIndex, nextRead, walkPast, beforeRead, skipped, stepped, past, reached};
+ghost use Rattle.sff.specs.Walk.{skipIndex, nextRead, walkPast, beforeRead};
+ghost use Rattle.sff.specs.Answers.{outcomeOfSkipped, outcomeOfStep, outcomeOfWalked, answerOfReached};
 
 // A boundary between reads: its position, and whether the index has been met.
 pub(crate) struct Boundary {
@@ -46,13 +47,13 @@ pub(crate) enum Reached {
 // The boundary behind the index where it starts at boundary b, else b.
 pub(crate) fn skip_index(s: &[u8], d: Header, b: Boundary) -> Skipped
     requires { ⌜ b .position ≤ length (now s) ⌝ }
-    ensures { λ r. ⌜ skipped r ≡ run (skipIndex d b) (now (s .entry)) ⌝ }
+    ensures { λ r. ⌜ outcomeOfSkipped r ≡ run (skipIndex d b) (now (s .entry)) ⌝ }
 {
     let position = b.position;
     if (position as u64) != d.index_offset {
         return Skipped::To(b);
     }
-    let end = position + round_up(d.index_length as usize);
+    let end = position + index_size(d);
     if s.len() < end {
         return Skipped::Short(position, end);
     }
@@ -65,16 +66,16 @@ pub(crate) fn skip_index(s: &[u8], d: Header, b: Boundary) -> Skipped
 // The read behind boundary b, and behind the index where that stands between.
 pub(crate) fn next_read(s: &[u8], d: Header, b: Boundary) -> Step
     requires { ⌜ b .position ≤ length (now s) ⌝ }
-    ensures { λ r. ⌜ ((i : ℕ) → stepped i r ≡ run (nextRead d i b) (now (s .entry))) ⌝ }
+    ensures { λ r. ⌜ ((i : ℕ) → outcomeOfStep i r ≡ run (nextRead d i b) (now (s .entry))) ⌝ }
 {
     match skip_index(s, d, b) {
         Skipped::Short(start, end) => Step::ShortIndex(start, end),
         Skipped::To(c) => {
             let start = c.position;
             match frame(s, d.flows, start) {
-                Framed::Bad(test) => Step::Bad(test),
-                Framed::Short(missing, end) => Step::Short(missing, end),
-                Framed::End(end) => Step::Next(
+                Ended::Failed(test) => Step::Bad(test),
+                Ended::Short(missing, end) => Step::Short(missing, end),
+                Ended::At(end) => Step::Next(
                     start,
                     Boundary {
                         position: end,
@@ -89,7 +90,7 @@ pub(crate) fn next_read(s: &[u8], d: Header, b: Boundary) -> Step
 // The n reads from read i on, counted from 0.
 pub(crate) fn walk(s: &[u8], d: Header, n: usize, i: usize, b: Boundary) -> Walked
     requires { ⌜ (b .position ≤ length (now s)) × (i + n < 0x8000000000000000) ⌝ }
-    ensures { λ r. ⌜ past r ≡ run (walkPast d n i b) (now (s .entry)) ⌝ }
+    ensures { λ r. ⌜ outcomeOfWalked r ≡ run (walkPast d n i b) (now (s .entry)) ⌝ }
 {
     let mut here = b;
     let mut j = 0;
@@ -116,7 +117,7 @@ pub(crate) fn walk(s: &[u8], d: Header, n: usize, i: usize, b: Boundary) -> Walk
 // The boundary before read k, counted from one.
 pub(crate) fn walk_to(s: &[u8], d: Header, k: u64) -> Reached
     requires { ⌜ d .«header_length» ≤ length (now s) ⌝ }
-    ensures { λ r. ⌜ reached r ≡ answer (beforeRead d k) (now (s .entry)) ⌝ }
+    ensures { λ r. ⌜ answerOfReached r ≡ answer (beforeRead d k) (now (s .entry)) ⌝ }
 {
     if k < 1 {
         return Reached::Refused(7);

@@ -8,19 +8,21 @@ use lib.Seq.{take-at, drop-at, drop-drop, take-append-le, drop-append-le}
 use Rattle.reading.specs.Number.{be}
 use Rattle.reading.specs.Check.{ok, answer}
 use Rattle.reading.proofs.Width.{be-taken}
-use Rattle.sff.specs.declared.header.Header.{Header}
-use Rattle.sff.specs.declared.read.ReadHeader.{ReadHeader}
-use Rattle.sff.specs.Padding.{padding, padded}
+use Rattle.sff_fields.specs.declared.header.Header.{Header}
+use Rattle.sff_fields.specs.declared.read.ReadHeader.{ReadHeader}
+use Rattle.sff_fields.specs.Padding.{padding, padded}
 use Rattle.sff.specs.Header.{headerOf, header}
-use Rattle.sff.specs.Read.{readHeaderOf, readEnd, present}
-use Rattle.sff.proofs.padding.Laws.{padded-bounds}
+use Rattle.sff.specs.Read.{readHeaderAt, readHeaderOf, presentRead}
+use Rattle.sff_fields.specs.Read.{readEnd}
+use Rattle.sff_fields.proofs.padding.Laws.{padded-bounds}
 use Rattle.sff.proofs.NoIndex.{header-passes, present-passes}
 use Rattle.writing.specs.Put.{digits, words}
 use Rattle.writing.proofs.Digits.{be-field}
 use Rattle.writing.proofs.Words.{length-words}
 use Rattle.sff_write.specs.Header.{frontBytes, lengthBytes, headerSize, headerBytes}
 use Rattle.sff_write.specs.Read as Read
-use Rattle.sff_write.specs.Read.{Given, headerWith, headerFor, clipBytes, fieldBytes, readBytes, Fitting}
+use Rattle.sff_write.specs.Read.{GivenRead, headerWith, headerFor, clipBytes, fieldBytes, readBytes}
+use Rattle.sff_write.specs.Private.{Fitting}
 use Rattle.sff_write.proofs.header.Laws.{length-header}
 use Rattle.sff_write.proofs.read.Laws.{length-lengths, length-clips, length-read}
 
@@ -110,7 +112,7 @@ module _ (u x : List ℕ) (d : ReadHeader) (start : d .start ≡ length u) (head
   field-back w n k v r e f h q = be-taken w (length u + 16) (length u + k) (u ++ behind) (omega arith) ∙ be-field w n k u v r behind e f h
 
   pub read-fields-back : readHeaderOf (take (length u + 16) (u ++ (fieldBytes d ++ x))) (length u) ≡ d
-  unfolding readHeaderOf behind Read.lengthBytes clipBytes digits
+  unfolding readHeaderAt behind Read.lengthBytes clipBytes digits
   read-fields-back =
       let z : length u + 0 ≡ length u = omega arith in
       let n1 = digits 2 (d .«header_length») in
@@ -135,7 +137,7 @@ module _ (u x : List ℕ) (d : ReadHeader) (start : d .start ≡ length u) (head
       λ i. record { start = sym start i; «header_length» = a i; «name_length» = b i; bases = c i; «quality_left» = e i; «quality_right» = f i; «adapter_left» = g i; «adapter_right» = h i }
 
 -- a read r that was written behind u, and what follows it
-module _ (u t : List ℕ) (f : ℕ) (r : Given) (fit : Fitting f r) where
+module _ (u t : List ℕ) (f : ℕ) (r : GivenRead) (fit : Fitting f r) where
   pub read-end : readEnd f (headerFor (length u) r) ≡ length (u ++ readBytes (headerFor (length u) r) r)
   unfolding headerWith
   read-end =
@@ -156,15 +158,15 @@ module _ (u t : List ℕ) (f : ℕ) (r : Given) (fit : Fitting f r) where
   unfolding readBytes zeros flows last
   begins-read = simp append-assoc
 
-  fields-read : readHeaderOf (take (length u + 16) (u ++ (readBytes (headerFor (length u) r) r ++ t))) (length u) ≡ headerFor (length u) r
+  pub fields-read : readHeaderOf (take (length u + 16) (u ++ (readBytes (headerFor (length u) r) r ++ t))) (length u) ≡ headerFor (length u) r
   unfolding headerWith
   fields-read =
       let h = padded-bounds (16 + length (r .name)) in
-      let n = fit .named in
+      let n = fit .name-fits in
       ap (λ (x : List ℕ). readHeaderOf (take (length u + 16) x) (length u)) begins-read
-      ∙ read-fields-back u (r .name ++ (zeros ++ (flows ++ (r .steps ++ (r .letters ++ (r .qualities ++ (last ++ t))))))) (headerFor (length u) r) refl (fit .named) (omega arith) (fit .bases) (fit .quality-left) (fit .quality-right) (fit .adapter-left) (fit .adapter-right)
+      ∙ read-fields-back u (r .name ++ (zeros ++ (flows ++ (r .steps ++ (r .letters ++ (r .qualities ++ (last ++ t))))))) (headerFor (length u) r) refl (fit .name-fits) (omega arith) (fit .bases-fit) (fit .clips-fit .0) (fit .clips-fit .1) (fit .clips-fit .2) (fit .clips-fit .3)
 
-  pub present-back : answer (present f (length u)) (u ++ (readBytes (headerFor (length u) r) r ++ t)) ≡ ok (record { fields = headerFor (length u) r; upTo = u ++ readBytes (headerFor (length u) r) r })
+  pub present-back : answer (presentRead f (length u)) (u ++ (readBytes (headerFor (length u) r) r ++ t)) ≡ ok (record { fields = headerFor (length u) r; upTo = u ++ readBytes (headerFor (length u) r) r })
   unfolding headerWith
   present-back =
       let s = u ++ (readBytes (headerFor (length u) r) r ++ t) in

@@ -2,11 +2,11 @@
 use Prim.Native.Nat.{ℕ}
 use mathlib.Core.List.{List}
 use Rattle.reading.proofs.Refused.{Refuses, refuses-done, refuses-must, refuses-bind, refuses-pick}
-use Rattle.sff.specs.declared.read.ReadHeader.{ReadHeader}
-use Rattle.sff.specs.Clips.{clipsCheck}
+use Rattle.sff_fields.specs.declared.read.ReadHeader.{ReadHeader}
+use Rattle.sff_fields.specs.Clips.{clipsCheck}
 use Rattle.contents.specs.Steps.{stepsCheck}
 use Rattle.sff_write.specs.declared.write.Writer.{Writer}
-use Rattle.sff_write.specs.Read.{Given, clipsFit, nameFits, lengthsCheck, contentsCheck}
+use Rattle.sff_write.specs.Read.{GivenRead, clipsFit, nameFits, lengthsCheck, contentsCheck}
 use Rattle.sff_write.specs.Write.{beginning, addingFit, adding, finishing}
 
 module _ (P : ℕ → ℕ → Type 0) (s : List ℕ) (lengths : P 9 0) where
@@ -14,7 +14,7 @@ module _ (P : ℕ → ℕ → Type 0) (s : List ℕ) (lengths : P 9 0) where
   unfolding beginning
   beginning-refuses full n letters key room = search (refuses-bind, refuses-must, refuses-done, lengths, full) depth 14
 
-  lengths-refuses : (f : ℕ) (r : Given) → Refuses P (lengthsCheck f r) s
+  lengths-refuses : (f : ℕ) (r : GivenRead) → Refuses P (lengthsCheck f r) s
   unfolding lengthsCheck nameFits clipsFit
   lengths-refuses f r = search (refuses-bind, refuses-must, lengths) depth 20 fits 3000
 
@@ -22,7 +22,7 @@ module _ (P : ℕ → ℕ → Type 0) (s : List ℕ) (lengths : P 9 0) where
   unfolding contentsCheck clipsCheck stepsCheck
   contents-refuses value d f steps = search (refuses-bind, refuses-must, refuses-pick, refuses-done, value) depth 14
 
-  pub adding-refuses : P 11 0 → P 13 0 → (w : Writer) (r : Given) (room : ℕ) → Refuses P (adding w r room) s
+  pub adding-refuses : P 11 0 → P 13 0 → (w : Writer) (r : GivenRead) (room : ℕ) → Refuses P (adding w r room) s
   unfolding adding addingFit
   adding-refuses value full w r room = search (refuses-bind, refuses-must, refuses-done, lengths-refuses, contents-refuses, lengths, value, full) depth 14
 

@@ -1,3 +1,5 @@
 pub mod Header
 pub mod Read
 pub mod Write
+pub mod Answers
+pub mod Private

@@ -1,18 +1,20 @@
 -- SFF: a read that the writer is given: its checks, and its bytes.
-use Prim.Native.Nat.{ℕ, _+_, _*_, _≤_}
-use mathlib.Core.Path.{_≡_}
+use Prim.Native.Nat.{ℕ, _+_, _*_}
 use mathlib.Core.List.{List, _++_}
 use lib.Dec.{leb, eqb}
 use lib.ListN.{length, replicate}
+use denote.Ref.{RefT, now}
 use Rattle.reading.specs.Check.{Check, provided, _>>=_, _>>_}
-use Rattle.sff.specs.declared.read.ReadHeader.{ReadHeader}
-use Rattle.sff.specs.Padding.{padding, padded}
-use Rattle.sff.specs.Clips.{clipsCheck}
 use Rattle.contents.specs.Steps.{stepsCheck}
+use Rattle.sff_fields.specs.declared.read.ReadHeader.{ReadHeader}
+use Rattle.sff_fields.specs.Padding.{padding, padded}
+use Rattle.sff_fields.specs.Read.{readFrontLength}
+use Rattle.sff_fields.specs.Clips.{clipsCheck}
 use Rattle.writing.specs.Put.{digits, words}
 use Rattle.sff_write.specs.declared.read.Clips.{Clips}
 
-pub record Given : Type 0 where
+-- a read that the writer is given
+pub record GivenRead : Type 0 where
   pub name : List ℕ
   pub flows : List ℕ
   pub steps : List ℕ
@@ -20,80 +22,85 @@ pub record Given : Type 0 where
   pub qualities : List ℕ
   pub clips : Clips
 
-abbrev pub given : List ℕ → List ℕ → List ℕ → List ℕ → List ℕ → Clips → Given
-given name flows steps letters qualities clips = record { name = name; flows = flows; steps = steps; letters = letters; qualities = qualities; clips = clips }
+abbrev pub givenRead : List ℕ → List ℕ → List ℕ → List ℕ → List ℕ → Clips → GivenRead
+givenRead name flows steps letters qualities clips =
+    record { name = name; flows = flows; steps = steps; letters = letters; qualities = qualities; clips = clips }
+
+-- the read that is lent by these references
+abbrev pub lentRead : RefT (List ℕ) → RefT (List ℕ) → RefT (List ℕ) → RefT (List ℕ) → RefT (List ℕ) → Clips → GivenRead
+lentRead name flows steps letters qualities clips = givenRead (now name) (now flows) (now steps) (now letters) (now qualities) clips
 
 -- the clips fit their fields
 unfoldable pub clipsFit : Clips → Check (Unit {0})
-clipsFit c = do
-  provided (leb (c .«quality_left») 65535) 9
-  provided (leb (c .«quality_right») 65535) 9
-  provided (leb (c .«adapter_left») 65535) 9
-  provided (leb (c .«adapter_right») 65535) 9
+clipsFit clips = do
+  provided (leb (clips .«quality_left») 65535) 9
+  provided (leb (clips .«quality_right») 65535) 9
+  provided (leb (clips .«adapter_left») 65535) 9
+  provided (leb (clips .«adapter_right») 65535) 9
 
--- the header length of a read with a name of n bytes fits its field
+-- the length of a read's header
+abbrev pub readHeaderSize : ℕ → ℕ
+readHeaderSize name = padded (readFrontLength + name)
+
+-- the header length of a read with a name of so many bytes fits its field
 unfoldable pub nameFits : ℕ → Check (Unit {0})
-nameFits n = provided (leb (padded (16 + n)) 65535) 9
+nameFits name = provided (leb (readHeaderSize name) 65535) 9
 
--- lengths that do not fit their fields, or disagree, in a file of f flows
-unfoldable pub lengthsCheck : ℕ → Given → Check (Unit {0})
-lengthsCheck f r = do
-  nameFits (length (r .name))
-  provided (leb f 65535) 9
-  provided (eqb (length (r .flows)) f) 9
-  provided (eqb (length (r .steps)) (length (r .letters))) 9
-  provided (eqb (length (r .qualities)) (length (r .letters))) 9
-  provided (leb (length (r .letters)) 0xffffffff) 9
-  clipsFit (r .clips)
+-- lengths that do not fit their fields, or disagree, in a file of so many flows 9
+unfoldable pub lengthsCheck : ℕ → GivenRead → Check (Unit {0})
+lengthsCheck flows read = do
+  nameFits (length (read .name))
+  provided (leb flows 65535) 9
+  provided (eqb (length (read .flows)) flows) 9
+  provided (eqb (length (read .steps)) (length (read .letters))) 9
+  provided (eqb (length (read .qualities)) (length (read .letters))) 9
+  provided (leb (length (read .letters)) 0xffffffff) 9
+  clipsFit (read .clips)
 
--- the header fields of a read that starts at place p, with a name of n bytes and b bases
+-- the header fields of a read that starts here, with a name of so many bytes and so many bases
 unfoldable pub headerWith : ℕ → ℕ → ℕ → Clips → ReadHeader
-headerWith p n b c =
+headerWith start name bases clips =
     record {
-      start = p;
-      «header_length» = padded (16 + n);
-      «name_length» = n;
-      bases = b;
-      «quality_left» = c .«quality_left»;
-      «quality_right» = c .«quality_right»;
-      «adapter_left» = c .«adapter_left»;
-      «adapter_right» = c .«adapter_right»;
+      start = start;
+      «header_length» = readHeaderSize name;
+      «name_length» = name;
+      bases = bases;
+      «quality_left» = clips .«quality_left»;
+      «quality_right» = clips .«quality_right»;
+      «adapter_left» = clips .«adapter_left»;
+      «adapter_right» = clips .«adapter_right»;
     }
 
-abbrev pub headerFor : ℕ → Given → ReadHeader
-headerFor p r = headerWith p (length (r .name)) (length (r .letters)) (r .clips)
+abbrev pub headerFor : ℕ → GivenRead → ReadHeader
+headerFor start read = headerWith start (length (read .name)) (length (read .letters)) (read .clips)
 
--- the contents that the reader checks too: the clips, and the flow steps
+-- the contents that the reader checks too: the clips, and the flow steps 11
 unfoldable pub contentsCheck : ReadHeader → ℕ → List ℕ → Check (Unit {0})
-contentsCheck d f steps = do
-  clipsCheck d
-  stepsCheck f steps 0 (length steps)
+contentsCheck header flows steps = do
+  clipsCheck header
+  stepsCheck flows steps 0 (length steps)
 
 -- a read's header length, name length and bases; its clips
 unfoldable pub lengthBytes : ReadHeader → List ℕ
-lengthBytes d = digits 2 (d .«header_length») ++ (digits 2 (d .«name_length») ++ digits 4 (d .bases))
+lengthBytes header = digits 2 (header .«header_length») ++ (digits 2 (header .«name_length») ++ digits 4 (header .bases))
 
 unfoldable pub clipBytes : ReadHeader → List ℕ
-clipBytes d = digits 2 (d .«quality_left») ++ (digits 2 (d .«quality_right») ++ (digits 2 (d .«adapter_left») ++ digits 2 (d .«adapter_right»)))
+clipBytes header =
+    digits 2 (header .«quality_left») ++ (digits 2 (header .«quality_right»)
+    ++ (digits 2 (header .«adapter_left») ++ digits 2 (header .«adapter_right»)))
 
 abbrev pub fieldBytes : ReadHeader → List ℕ
-fieldBytes d = lengthBytes d ++ clipBytes d
+fieldBytes header = lengthBytes header ++ clipBytes header
+
+-- the zeros behind the name, and behind the data
+abbrev pub nameZeros : GivenRead → List ℕ
+nameZeros read = replicate (padding (readFrontLength + length (read .name))) 0
+
+abbrev pub dataZeros : GivenRead → List ℕ
+dataZeros read = replicate (padding (2 * length (read .flows) + 3 * length (read .letters))) 0
 
 -- the read with these header fields: fields, name, padding; flows, flow steps, letters, qualities, padding
-unfoldable pub readBytes : ReadHeader → Given → List ℕ
-readBytes d r =
-    fieldBytes d ++ (r .name ++ (replicate (padding (16 + length (r .name))) 0
-    ++ (words (r .flows) (length (r .flows)) 0 ++ (r .steps ++ (r .letters ++ (r .qualities ++ replicate (padding (2 * length (r .flows) + 3 * length (r .letters))) 0))))))
-
--- what the lengths' checks have shown of a read
-pub record Fitting (f : ℕ) (r : Given) : Type 0 where
-  pub named : padded (16 + length (r .name)) ≤ 65535
-  pub few : f ≤ 65535
-  pub flows-agree : length (r .flows) ≡ f
-  pub steps-agree : length (r .steps) ≡ length (r .letters)
-  pub qualities-agree : length (r .qualities) ≡ length (r .letters)
-  pub bases : length (r .letters) ≤ 0xffffffff
-  pub quality-left : r .clips .«quality_left» ≤ 65535
-  pub quality-right : r .clips .«quality_right» ≤ 65535
-  pub adapter-left : r .clips .«adapter_left» ≤ 65535
-  pub adapter-right : r .clips .«adapter_right» ≤ 65535
+unfoldable pub readBytes : ReadHeader → GivenRead → List ℕ
+readBytes header read =
+    fieldBytes header ++ (read .name ++ (nameZeros read
+    ++ (words (read .flows) (length (read .flows)) 0 ++ (read .steps ++ (read .letters ++ (read .qualities ++ dataZeros read))))))

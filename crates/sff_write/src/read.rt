@@ -1,8 +1,9 @@
 // A read: what it is checked for, and its bytes.
 use contents::steps::steps_hold;
-use sff::clips::clips_hold;
-use sff::padding::padding_behind;
-use sff::read::ReadHeader;
+use sff_fields::clips::clips_hold;
+use sff_fields::padding::padding_behind;
+use sff_fields::read::READ_FRONT_LENGTH;
+use sff_fields::read::ReadHeader;
 use writing::bytes::copy;
 use writing::bytes::put_zeros;
 use writing::number::put_words;
@@ -14,9 +15,10 @@ ghost use Prim.Native.Nat.{ℕ, _+_, _≤_};
 ghost use lib.ListN.{length, replicate};
 ghost use Rattle.reading.specs.Choice.{pick};
 ghost use Rattle.reading.specs.Check.{answer, ok, refused};
-ghost use Rattle.sff.specs.Padding.{padded};
 ghost use Rattle.writing.specs.Put.{put};
-ghost use Rattle.sff_write.specs.Read.{given, nameFits, clipsFit, lengthsCheck, headerWith, contentsCheck, lengthBytes, clipBytes, fieldBytes, readBytes};
+ghost use Rattle.sff_write.specs.Read.{lentRead, nameFits, clipsFit, lengthsCheck, readHeaderSize, headerWith, contentsCheck};
+ghost use Rattle.sff_write.specs.Read.{lengthBytes, clipBytes, fieldBytes, readBytes};
+ghost use Rattle.sff_write.specs.Private.{FittingClips};
 
 // The clips of a read, from one; 0 for none.
 pub struct Clips {
@@ -51,7 +53,7 @@ fn name_fits(n: usize) -> bool
     if 65535 < n {
         return false;
     }
-    16 + n + padding_behind(16 + n) <= 65535
+    READ_FRONT_LENGTH + n + padding_behind(READ_FRONT_LENGTH + n) <= 65535
 }
 
 // The lengths fit their fields and agree, in a file of so many flows.
@@ -64,7 +66,8 @@ pub(crate) fn lengths_hold(
     qualities: &[u8],
     clips: Clips,
 ) -> bool
-    ensures { λ r. ⌜ ((l : List ℕ) → pick r (ok tt) (refused 9 0) ≡ answer (lengthsCheck count (given (now (name .entry)) (now (flows .entry)) (now (steps .entry)) (now (letters .entry)) (now (qualities .entry)) clips)) l) ⌝ }
+    ensures { λ r. ⌜ ((l : List ℕ) → pick r (ok tt) (refused 9 0)
+        ≡ answer (lengthsCheck count (lentRead (name .entry) (flows .entry) (steps .entry) (letters .entry) (qualities .entry) clips)) l) ⌝ }
 {
     let fits = name_fits(name.len());
     if fits {
@@ -90,11 +93,11 @@ pub(crate) fn lengths_hold(
 
 // The header fields of a read that starts at place p.
 pub(crate) fn header_with(p: usize, name: usize, bases: usize, c: Clips) -> ReadHeader
-    requires { ⌜ (padded (16 + name) ≤ 65535) × (bases ≤ 0xffffffff) ⌝ }
-    requires { ⌜ (c .«quality_left» ≤ 65535) × (c .«quality_right» ≤ 65535) × (c .«adapter_left» ≤ 65535) × (c .«adapter_right» ≤ 65535) ⌝ }
+    requires { ⌜ (readHeaderSize name ≤ 65535) × (bases ≤ 0xffffffff) ⌝ }
+    requires { ⌜ FittingClips c ⌝ }
     ensures { λ r. ⌜ r ≡ headerWith p name bases c ⌝ }
 {
-    let size = 16 + name + padding_behind(16 + name);
+    let size = READ_FRONT_LENGTH + name + padding_behind(READ_FRONT_LENGTH + name);
     ReadHeader {
         start: p,
         header_length: size as u16,
@@ -144,7 +147,7 @@ fn put_header(out: &mut [u8], p: usize, d: ReadHeader, name: &[u8], zeros: usize
     put_lengths(out, p, d);
     let clips = p + 8;
     put_clips(out, clips, d);
-    let start = p + 16;
+    let start = p + READ_FRONT_LENGTH;
     copy(out, start, name);
     let end = start + name.len();
     put_zeros(out, end, zeros);
@@ -152,7 +155,8 @@ fn put_header(out: &mut [u8], p: usize, d: ReadHeader, name: &[u8], zeros: usize
 
 fn put_bases(out: &mut [u8], p: usize, steps: &[u8], letters: &[u8], qualities: &[u8], zeros: usize)
     requires { ⌜ p + length (now steps) + length (now letters) + length (now qualities) + zeros ≤ length (now out) ⌝ }
-    ensures { λ _. ⌜ now (out .exit) ≡ put (now (out .entry)) p (now (steps .entry) ++ (now (letters .entry) ++ (now (qualities .entry) ++ replicate zeros 0))) ⌝ }
+    ensures { λ _. ⌜ now (out .exit)
+        ≡ put (now (out .entry)) p (now (steps .entry) ++ (now (letters .entry) ++ (now (qualities .entry) ++ replicate zeros 0))) ⌝ }
 {
     copy(out, p, steps);
     let second = p + steps.len();
@@ -175,11 +179,13 @@ pub(crate) fn put_read(
     qualities: &[u8],
     clips: Clips,
 )
-    requires { ⌜ (length (now name) ≤ 65535) × (length (now flows) ≤ 65535) × (length (now letters) ≤ 0xffffffff) × (length (now steps) ≡ length (now letters)) × (length (now qualities) ≡ length (now letters)) ⌝ }
-    requires { ⌜ p + length (readBytes d (given (now name) (now flows) (now steps) (now letters) (now qualities) clips)) ≤ length (now out) ⌝ }
-    ensures { λ _. ⌜ now (out .exit) ≡ put (now (out .entry)) p (readBytes d (given (now (name .entry)) (now (flows .entry)) (now (steps .entry)) (now (letters .entry)) (now (qualities .entry)) clips)) ⌝ }
+    requires { ⌜ (length (now name) ≤ 65535) × (length (now flows) ≤ 65535) × (length (now letters) ≤ 0xffffffff)
+        × (length (now steps) ≡ length (now letters)) × (length (now qualities) ≡ length (now letters)) ⌝ }
+    requires { ⌜ p + length (readBytes d (lentRead name flows steps letters qualities clips)) ≤ length (now out) ⌝ }
+    ensures { λ _. ⌜ now (out .exit)
+        ≡ put (now (out .entry)) p (readBytes d (lentRead (name .entry) (flows .entry) (steps .entry) (letters .entry) (qualities .entry) clips)) ⌝ }
 {
-    let named = 16 + name.len();
+    let named = READ_FRONT_LENGTH + name.len();
     let front = padding_behind(named);
     put_header(out, p, d, name, front);
     let n = flows.len();

@@ -5,7 +5,8 @@ use crate::read::contents_hold;
 use crate::read::header_with;
 use crate::read::lengths_hold;
 use crate::read::put_read;
-use sff::padding::padding_behind;
+use sff_fields::header::FRONT_LENGTH;
+use sff_fields::padding::padding_behind;
 use writing::answer::Written;
 ghost use mathlib.Core.Path.{_≡_};
 ghost use mathlib.Core.List.{[]};
@@ -13,10 +14,13 @@ ghost use Prim.Native.Nat.{_<_};
 ghost use lib.ListN.{length};
 ghost use Rattle.reading.specs.Check.{mapAnswer, answer};
 ghost use Rattle.writing.specs.Answer.{written};
-ghost use Rattle.sff_write.specs.Read.{given, Fitting};
-ghost use Rattle.sff_write.specs.Write.{behind, advanced, writtenAt, beginning, addingFit, adding, finishing};
+ghost use Rattle.sff_write.specs.Read.{lentRead};
+ghost use Rattle.sff_write.specs.Private.{Fitting};
+ghost use Rattle.sff_write.specs.Write.{behind, writtenAt, beginning, addingFit, adding, finishing};
+ghost use Rattle.sff_write.specs.Answers.{answerOfAdvanced};
 
-// The state of a file that is being written: the stated number of reads, how many of them are written, how many flows each has, and the place behind what is written.
+// The state of a file that is being written: the stated number of reads, how many of them are written, how many flows each has, and the place
+// behind what is written.
 pub struct Writer {
     pub reads: u64,
     pub written: u64,
@@ -32,7 +36,10 @@ pub enum Advanced {
 
 // Writes the header of a file of so many reads.
 pub fn begin(reads: u32, letters: &[u8], key: &[u8], out: &mut [u8]) -> Advanced
-    ensures { λ r. ⌜ (advanced r ≡ mapAnswer behind (answer (beginning reads (now (letters .entry)) (now (key .entry)) (length (now (out .entry)))) [])) × (now (out .exit) ≡ writtenAt 0 (answer (beginning reads (now (letters .entry)) (now (key .entry)) (length (now (out .entry)))) []) (now (out .entry))) ⌝ }
+    ensures { λ r. ⌜ answerOfAdvanced r
+        ≡ mapAnswer behind (answer (beginning reads (now (letters .entry)) (now (key .entry)) (length (now (out .entry)))) []) ⌝ }
+    ensures { λ _. ⌜ now (out .exit)
+        ≡ writtenAt 0 (answer (beginning reads (now (letters .entry)) (now (key .entry)) (length (now (out .entry)))) []) (now (out .entry)) ⌝ }
 {
     let n = letters.len();
     let k = key.len();
@@ -42,7 +49,7 @@ pub fn begin(reads: u32, letters: &[u8], key: &[u8], out: &mut [u8]) -> Advanced
     if 65535 < k {
         return Advanced::Refused(9);
     }
-    let size = 31 + n + k + padding_behind(31 + n + k);
+    let size = FRONT_LENGTH + n + k + padding_behind(FRONT_LENGTH + n + k);
     if 65535 < size {
         return Advanced::Refused(9);
     }
@@ -70,8 +77,12 @@ fn add_fitting(
     out: &mut [u8],
 ) -> Advanced
     requires { ⌜ w .written < w .reads ⌝ }
-    requires { ⌜ Fitting (w .flows) (given (now name) (now flows) (now steps) (now letters) (now qualities) clips) ⌝ }
-    ensures { λ r. ⌜ (advanced r ≡ mapAnswer behind (answer (addingFit w (given (now (name .entry)) (now (flows .entry)) (now (steps .entry)) (now (letters .entry)) (now (qualities .entry)) clips) (length (now (out .entry)))) [])) × (now (out .exit) ≡ writtenAt (w .at) (answer (addingFit w (given (now (name .entry)) (now (flows .entry)) (now (steps .entry)) (now (letters .entry)) (now (qualities .entry)) clips) (length (now (out .entry)))) []) (now (out .entry))) ⌝ }
+    requires { ⌜ Fitting (w .flows) (lentRead name flows steps letters qualities clips) ⌝ }
+    ensures { λ r. ⌜ answerOfAdvanced r ≡ mapAnswer behind (answer
+        (addingFit w (lentRead (name .entry) (flows .entry) (steps .entry) (letters .entry) (qualities .entry) clips) (length (now (out .entry)))) []) ⌝ }
+    ensures { λ _. ⌜ now (out .exit) ≡ writtenAt (w .at) (answer
+        (addingFit w (lentRead (name .entry) (flows .entry) (steps .entry) (letters .entry) (qualities .entry) clips) (length (now (out .entry)))) [])
+        (now (out .entry)) ⌝ }
 {
     let at = w.at;
     let n = flows.len();
@@ -109,7 +120,11 @@ pub fn add(
     clips: Clips,
     out: &mut [u8],
 ) -> Advanced
-    ensures { λ r. ⌜ (advanced r ≡ mapAnswer behind (answer (adding w (given (now (name .entry)) (now (flows .entry)) (now (steps .entry)) (now (letters .entry)) (now (qualities .entry)) clips) (length (now (out .entry)))) [])) × (now (out .exit) ≡ writtenAt (w .at) (answer (adding w (given (now (name .entry)) (now (flows .entry)) (now (steps .entry)) (now (letters .entry)) (now (qualities .entry)) clips) (length (now (out .entry)))) []) (now (out .entry))) ⌝ }
+    ensures { λ r. ⌜ answerOfAdvanced r ≡ mapAnswer behind (answer
+        (adding w (lentRead (name .entry) (flows .entry) (steps .entry) (letters .entry) (qualities .entry) clips) (length (now (out .entry)))) []) ⌝ }
+    ensures { λ _. ⌜ now (out .exit) ≡ writtenAt (w .at) (answer
+        (adding w (lentRead (name .entry) (flows .entry) (steps .entry) (letters .entry) (qualities .entry) clips) (length (now (out .entry)))) [])
+        (now (out .entry)) ⌝ }
 {
     if w.reads <= w.written {
         return Advanced::Refused(9);

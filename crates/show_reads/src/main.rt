@@ -1,8 +1,8 @@
 // Runs the calls that no C function reaches, on the SFF file on standard input: the parts of a read that are handed back, found and refused.
 use libc::STDIN_FILENO;
 use libc::STDOUT_FILENO;
-use sff::lookup::ReadPart;
 use sff::lookup::read_part;
+use sff_fields::parts::ReadPart;
 
 // A part as its length and its bytes.
 fn put_part(part: &[u8]) {

@@ -7,8 +7,8 @@ use lib.ListN.{length, take, drop}
 use borrow.Author.Tests.{le-leb}
 use Rattle.reading.specs.Check.{ok, answer, holds}
 use Rattle.reading.proofs.Steps.{answer-bind, answer-must, answer-done, answer-need-present}
-use Rattle.sff.specs.declared.position.BasePosition.{BasePosition}
-use Rattle.sff.specs.declared.lookup.Read.{Read}
+use Rattle.sff_fields.specs.declared.position.BasePosition.{BasePosition}
+use Rattle.sff_fields.specs.declared.parts.Read.{Read}
 use Rattle.contents.specs.Steps.{stepSum}
 use Rattle.sff.specs.Flow.{flowOf}
 use Rattle.contents.proofs.steps.Laws.{sum-window, sum-taken}

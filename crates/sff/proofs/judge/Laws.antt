@@ -13,10 +13,11 @@ use Rattle.reading.specs.Explain.{explanationOf}
 use Rattle.reading.proofs.Explained.{explained-short}
 use Rattle.reading.proofs.Steps.{run-bind, run-must, run-done}
 use Rattle.reading.proofs.Passed.{stops-failed, stops-short, passes-on}
-use Rattle.sff.specs.declared.header.Header.{Header}
+use Rattle.sff_fields.specs.declared.header.Header.{Header}
 use Rattle.sff.specs.declared.walk.Boundary.{Boundary}
-use Rattle.sff.specs.Header.{header, indexOffset, isMet}
-use Rattle.sff.specs.Walk.{front, skipIndex, walk, walkPast}
+use Rattle.sff.specs.Header.{header}
+use Rattle.sff_fields.specs.Header.{indexOffset, isMet}
+use Rattle.sff.specs.Walk.{firstBoundary, skipIndex, walk, walkPast}
 use Rattle.sff.specs.Judge.{indexMet, ending, judgingReads, judging}
 
 module _ (d : Header) (b : Boundary) (s : List ℕ) where
@@ -41,17 +42,17 @@ module _ (d : Header) (b : Boundary) (s : List ℕ) where
       ending-unmet m = simp (run-bind, h, run-must, ne-eqb (d .«index_offset») 0 q, m)
 
 module _ (d : Header) (s : List ℕ) where
-  pub reads-failed : (t : Test) (e : ℕ) → run (walkPast d (d .reads) 0 (front d)) s ≡ failed t e → run (judgingReads d) s ≡ failed t e
+  pub reads-failed : (t : Test) (e : ℕ) → run (walkPast d (d .reads) 0 (firstBoundary d)) s ≡ failed t e → run (judgingReads d) s ≡ failed t e
   unfolding judgingReads walkPast
-  reads-failed t e h = stops-failed (walk d (d .reads) 0 (front d)) (λ w. w .behind) _ s t e h
+  reads-failed t e h = stops-failed (walk d (d .reads) 0 (firstBoundary d)) (λ w. w .behind) _ s t e h
 
-  pub reads-short : (m : Need) (e : ℕ) → run (walkPast d (d .reads) 0 (front d)) s ≡ short m e → run (judgingReads d) s ≡ short m e
+  pub reads-short : (m : Need) (e : ℕ) → run (walkPast d (d .reads) 0 (firstBoundary d)) s ≡ short m e → run (judgingReads d) s ≡ short m e
   unfolding judgingReads walkPast
-  reads-short m e h = stops-short (walk d (d .reads) 0 (front d)) (λ w. w .behind) _ s m e h
+  reads-short m e h = stops-short (walk d (d .reads) 0 (firstBoundary d)) (λ w. w .behind) _ s m e h
 
-  pub reads-passed : (b : Boundary) → run (walkPast d (d .reads) 0 (front d)) s ≡ passed b → run (ending d b) s ≡ run (judgingReads d) s
+  pub reads-passed : (b : Boundary) → run (walkPast d (d .reads) 0 (firstBoundary d)) s ≡ passed b → run (ending d b) s ≡ run (judgingReads d) s
   unfolding judgingReads walkPast
-  reads-passed b h = passes-on (walk d (d .reads) 0 (front d)) (λ w. w .behind) (ending d) s b h
+  reads-passed b h = passes-on (walk d (d .reads) 0 (firstBoundary d)) (λ w. w .behind) (ending d) s b h
 
 module _ (s : List ℕ) where
   pub judge-failed : (t : Test) → run header s ≡ failed t 0 → run judging s ≡ failed t 0

@@ -15,21 +15,23 @@ use Rattle.reading.proofs.Cut.{answer-plain, run-ok}
 use Rattle.reading.proofs.Steps.{answer-bind, answer-done}
 use Rattle.reading.proofs.Passed.{bind-ok, done-ok, must-ok, stops-failed, stops-short, bind-answered}
 use Rattle.reading.proofs.Parts.{part-there}
-use Rattle.sff.specs.declared.header.Header.{Header}
-use Rattle.sff.specs.declared.read.ReadHeader.{ReadHeader}
+use Rattle.sff_fields.specs.declared.header.Header.{Header}
+use Rattle.sff_fields.specs.declared.read.ReadHeader.{ReadHeader}
 use Rattle.sff.specs.declared.walk.Boundary.{Boundary}
 use Rattle.sff.specs.declared.walk.Skipped.the-variants as skip
 use Rattle.sff.specs.declared.walk.Walked.the-variants as walked
-use Rattle.sff.specs.declared.lookup.Read.{Read}
-use Rattle.sff.specs.declared.lookup.ReadPart.{ReadPart}
-use Rattle.sff.specs.declared.lookup.ReadPart.the-variants.{Name, Flows, Steps, Letters, Qualities, Insert}
-use Rattle.sff.specs.Padding.{padded}
-use Rattle.sff.specs.Read.{readEnd, present, framing, stepsStart, lettersStart}
+use Rattle.sff_fields.specs.declared.parts.Read.{Read}
+use Rattle.sff_fields.specs.declared.parts.ReadPart.{ReadPart}
+use Rattle.sff_fields.specs.declared.parts.ReadPart.the-variants.{Name, Flows, Steps, Letters, Qualities, Insert}
+use Rattle.sff_fields.specs.Padding.{padded}
+use Rattle.sff.specs.Read.{presentRead, framing}
+use Rattle.sff_fields.specs.Read.{readEnd, stepsStart, lettersStart}
 use Rattle.sff.specs.Walk.{skipIndex, beforeRead}
-use Rattle.sff.specs.Clips.{clipsCheck, rightClip, firstBase, lastBase, insertFrom, insert}
+use Rattle.sff_fields.specs.Clips.{clipsCheck, firstBase, rightClip, lastBase, insertFrom, insert}
 use Rattle.contents.specs.Steps.{stepsCheck}
-use Rattle.sff.specs.Lookup.{readOf, readContents, readFrom, readIn, readReading, spanOf}
-use Rattle.sff.proofs.padding.Laws.{padded-bounds}
+use Rattle.sff.specs.Lookup.{readContents, readFrom, readIn, readReading}
+use Rattle.sff_fields.specs.Parts.{readOf, spanOf}
+use Rattle.sff_fields.proofs.padding.Laws.{padded-bounds}
 use Rattle.sff.proofs.read.Laws.{fields, present-there}
 
 -- a read's insert
@@ -123,11 +125,11 @@ number-fits s k r w =
 module _ (f p : ℕ) (s : List ℕ) where
   pub from-failed : (t : Test) → run (framing f p) s ≡ failed t 0 → refused (t .number) 0 ≡ answer (readFrom f p) s
   unfolding framing readFrom
-  from-failed t h = sym (answer-plain _ s ∙ ap answerOfOutcome (stops-failed (present f p) (λ r. readEnd f (r .fields)) (λ r. readContents f (r .fields) (r .upTo)) s t 0 h))
+  from-failed t h = sym (answer-plain _ s ∙ ap answerOfOutcome (stops-failed (presentRead f p) (λ r. readEnd f (r .fields)) (λ r. readContents f (r .fields) (r .upTo)) s t 0 h))
 
   pub from-short : (m : Need) → run (framing f p) s ≡ short m 0 → refused 1 0 ≡ answer (readFrom f p) s
   unfolding framing readFrom
-  from-short m h = sym (answer-plain _ s ∙ ap answerOfOutcome (stops-short (present f p) (λ r. readEnd f (r .fields)) (λ r. readContents f (r .fields) (r .upTo)) s m 0 h))
+  from-short m h = sym (answer-plain _ s ∙ ap answerOfOutcome (stops-short (presentRead f p) (λ r. readEnd f (r .fields)) (λ r. readContents f (r .fields) (r .upTo)) s m 0 h))
 
   module _ (e : ℕ) (h : run (framing f p) s ≡ passed e) where
     pub from-there : (p + 16 ≤ length s) × (e ≤ length s) × (readEnd f (fields s p) ≡ e)
@@ -154,7 +156,7 @@ module _ (f p : ℕ) (s : List ℕ) where
           let x : r .fields ≡ d = present-there f p s r (a .1) .header ∙ sym q in
           let y : r .upTo ≡ take e s = present-there f p s r (a .1) .upTo ∙ ap (λ (m : ℕ). take m s) (done-ok _ e s (a .2)) in
           let z : answer (readContents f d (take e s)) s ≡ answer (readContents f (r .fields) (r .upTo)) s = rw (x, y) in
-          z ∙ bind-answered (present f p) (λ r. readContents f (r .fields) (r .upTo)) s r (a .1)
+          z ∙ bind-answered (presentRead f p) (λ r. readContents f (r .fields) (r .upTo)) s r (a .1)
 
 -- read k, from what stands before it
 module _ (d : Header) (k : ℕ) (s : List ℕ) (b : Boundary) (h : answer (beforeRead d k) s ≡ ok b) where

@@ -1,20 +1,20 @@
--- Where a read ends, from the values that the code has read.
-use Prim.Native.Nat.{ℕ, _+_, _-_, _*_, _≤_, _<_}
+-- Where a read ends, from what the code has read and tested.
+use Prim.Native.Nat.{ℕ, _+_, _-_, _≤_, _<_}
 use mathlib.Core.Path.{_≡_, refl, sym, _∙_, ap, subst}
 use mathlib.Core.List.{List}
 use native.Mathlib.Omega.{arith}
 use lib.ListN.{length, take, drop}
-use borrow.Author.Tests.{eq-eqb, ne-eqb}
-use Rattle.reading.specs.declared.check.Rule.the-variants.{EqualTo}
+use Rattle.reading.specs.declared.check.Test.{Test}
 use Rattle.reading.specs.Number.{be}
-use Rattle.reading.specs.Check.{passed, failed, short, ok, run, answer, holds, unsignedField}
+use Rattle.reading.specs.Check.{passed, failed, short, ok, run, answer}
 use Rattle.reading.proofs.Width.{be-in-part, be-taken}
 use Rattle.reading.proofs.Signed.{equal-to-is}
 use Rattle.reading.proofs.Passed.{bind-ok, done-ok, must-ok, need-ok}
-use Rattle.reading.proofs.Steps.{run-bind, run-done, run-must, run-need-present, run-need-absent}
-use Rattle.sff.specs.declared.read.ReadHeader.{ReadHeader}
-use Rattle.sff.specs.Padding.{padded}
-use Rattle.sff.specs.Read.{readHeaderOf, readEnd, Present, present, framing}
+use Rattle.reading.proofs.Steps.{run-bind, run-done, run-need-present, run-need-absent}
+use Rattle.sff_fields.specs.declared.read.ReadHeader.{ReadHeader}
+use Rattle.sff_fields.specs.Padding.{padded}
+use Rattle.sff_fields.specs.Read.{dataLength, readLengthCheck, readEnd}
+use Rattle.sff.specs.Read.{readHeaderAt, readHeaderOf, PresentRead, presentData, presentRead, framing}
 
 -- the header of the read at place p
 abbrev pub fields : List ℕ → ℕ → ReadHeader
@@ -27,51 +27,61 @@ fixed s p = take (p + 16 - p) (drop p s)
 field : (w q p : ℕ) (s : List ℕ) → q + w ≤ 16 → be w (fixed s p) q ≡ be w (take (p + 16) s) (p + q)
 field w q p s h = be-in-part w p (p + 16 - p) q s (omega arith) ∙ sym (be-taken w (p + 16) (p + q) s (omega arith))
 
+-- its fields, read from them
+pub fields-fixed : (p : ℕ) (s : List ℕ) → readHeaderAt p (fixed s p) 0 ≡ fields s p
+unfolding readHeaderAt
+fields-fixed p s =
+    let z : p + 0 ≡ p = omega arith in
+    let a = field 2 0 p s (omega arith) ∙ ap (be 2 (take (p + 16) s)) z in
+    let b = field 2 2 p s (omega arith) in
+    let c = field 4 4 p s (omega arith) in
+    let e = field 2 8 p s (omega arith) in
+    let f = field 2 10 p s (omega arith) in
+    let g = field 2 12 p s (omega arith) in
+    let h = field 2 14 p s (omega arith) in
+    λ i. record { start = p; «header_length» = a i; «name_length» = b i; bases = c i; «quality_left» = e i; «quality_right» = f i; «adapter_left» = g i; «adapter_right» = h i }
+
 pub field-start : (p : ℕ) (s : List ℕ) → fields s p .start ≡ p
-unfolding readHeaderOf
+unfolding readHeaderAt
 field-start p s = refl
 
 module _ (f p : ℕ) (s : List ℕ) where
   pub frame-short : length s < p + 16 → short (record { start = p; end = p + 16 }) 0 ≡ run (framing f p) s
-  unfolding framing present
+  unfolding framing presentRead
   frame-short h = simp (run-bind, run-need-absent p (p + 16) s h)
 
-  module _ (h : p + 16 ≤ length s) (a n b : ℕ) (ea : a ≡ be 2 (fixed s p) 0) (en : n ≡ be 2 (fixed s p) 2) (eb : b ≡ be 4 (fixed s p) 4) where
-    known : (fields s p .«header_length» ≡ a) × (fields s p .«name_length» ≡ n) × (fields s p .bases ≡ b)
-    unfolding readHeaderOf
-    known =
-        let z : p + 0 ≡ p = omega arith in
-        (sym (ea ∙ field 2 0 p s (omega arith) ∙ ap (be 2 (take (p + 16) s)) z), sym (en ∙ field 2 2 p s (omega arith)), sym (eb ∙ field 4 4 p s (omega arith)))
+  module _ (h : p + 16 ≤ length s) (d : ReadHeader) (e : d ≡ fields s p) where
+    start-is : d .start ≡ p
+    start-is = ap (λ (x : ReadHeader). x .start) e ∙ field-start p s
 
-    module _ (m : ℕ) (em : m ≡ padded (16 + n)) where
-      pub frame-bad : (a ≡ m → ⊥) → failed (record { field = unsignedField 2 p a; rule = EqualTo m; number = 9 }) 0 ≡ run (framing f p) s
-      unfolding framing present holds
-      frame-bad q = simp (run-bind, run-need-present p (p + 16) s h, run-must, field-start p s, known .0, known .1, ← em, ne-eqb a m q)
+    pub frame-bad : (t : Test) → run (readLengthCheck d) s ≡ failed t 0 → failed t 0 ≡ run (framing f p) s
+    unfolding framing presentRead presentData
+    frame-bad t q = simp (run-bind, run-need-present p (p + 16) s h, ← e, q)
 
-      module _ (q : a ≡ m) where
-        pub frame-header : length s < p + a → short (record { start = p; end = p + a }) 0 ≡ run (framing f p) s
-        unfolding framing present holds
-        frame-header l = simp (run-bind, run-need-present p (p + 16) s h, run-must, field-start p s, known .0, known .1, ← em, eq-eqb a m q, run-need-absent p (p + a) s l)
+    module _ (q : run (readLengthCheck d) s ≡ passed tt) where
+      pub frame-header : length s < p + d .«header_length» → short (record { start = p; end = p + d .«header_length» }) 0 ≡ run (framing f p) s
+      unfolding framing presentRead presentData
+      frame-header l = simp (run-bind, run-need-present p (p + 16) s h, ← e, q, start-is, run-need-absent p (p + d .«header_length») s l)
 
-        module _ (l : p + a ≤ length s) (e : ℕ) (ee : e ≡ p + a + padded (2 * f + 3 * b)) where
-          pub frame-data : length s < e → short (record { start = p + a; end = e }) 0 ≡ run (framing f p) s
-          unfolding framing present holds
-          frame-data k = simp (run-bind, run-need-present p (p + 16) s h, run-must, field-start p s, known .0, known .1, known .2, ← em, ← ee, eq-eqb a m q, run-need-present p (p + a) s l, run-need-absent (p + a) e s k)
+      module _ (l : p + d .«header_length» ≤ length s) (m : ℕ) (k : m ≡ p + d .«header_length» + dataLength f (d .bases)) where
+        pub frame-data : length s < m → short (record { start = p + d .«header_length»; end = m }) 0 ≡ run (framing f p) s
+        unfolding framing presentRead presentData
+        frame-data g = simp (run-bind, run-need-present p (p + 16) s h, ← e, q, start-is, run-need-present p (p + d .«header_length») s l, ← k, run-need-absent (p + d .«header_length») m s g)
 
-          pub frame-end : e ≤ length s → passed e ≡ run (framing f p) s
-          unfolding framing present holds
-          frame-end k = simp (run-bind, run-need-present p (p + 16) s h, run-must, field-start p s, known .0, known .1, known .2, ← em, ← ee, eq-eqb a m q, run-need-present p (p + a) s l, run-need-present (p + a) e s k, run-done)
+        pub frame-end : m ≤ length s → passed m ≡ run (framing f p) s
+        unfolding framing presentRead presentData
+        frame-end g = simp (run-bind, run-need-present p (p + 16) s h, ← e, q, start-is, run-need-present p (p + d .«header_length») s l, ← k, run-need-present (p + d .«header_length») m s g, run-done)
 
 -- what the checks have shown of a read that is there
-pub record There (f p : ℕ) (s : List ℕ) (r : Present) : Type 0 where
+pub record There (f p : ℕ) (s : List ℕ) (r : PresentRead) : Type 0 where
   pub fixed : p + 16 ≤ length s
   pub header : r .fields ≡ fields s p
   pub named : r .fields .«header_length» ≡ padded (16 + r .fields .«name_length»)
   pub within : readEnd f (r .fields) ≤ length s
   pub upTo : r .upTo ≡ take (readEnd f (r .fields)) s
 
-pub present-there : (f p : ℕ) (s : List ℕ) (r : Present) → answer (present f p) s ≡ ok r → There f p s r
-unfolding present
+pub present-there : (f p : ℕ) (s : List ℕ) (r : PresentRead) → answer (presentRead f p) s ≡ ok r → There f p s r
+unfolding presentRead presentData readLengthCheck
 present-there f p s r w =
     let a = bind-ok _ _ s r w in
     let b = bind-ok _ _ s r (a .2) in

@@ -14,12 +14,14 @@ use Rattle.reading.proofs.Cut.{run-ok, answer-ok, answer-plain, answer-same}
 use Rattle.reading.proofs.Steps.{then, answer-bind, answer-must, answer-done, answer-at, answer-need-present}
 use Rattle.reading.proofs.bulk.Laws as Bulk
 use Rattle.reading.proofs.Passed.{bind-ok, done-ok, map-refused}
-use Rattle.sff.specs.declared.header.Header.{Header}
+use Rattle.sff_fields.specs.declared.header.Header.{Header}
 use Rattle.sff.specs.declared.walk.Boundary.{Boundary}
-use Rattle.sff.specs.declared.lookup.Read.{Read}
-use Rattle.sff.specs.Walk.{front, Placed, nextRead, Passage, walk, walkPast}
+use Rattle.sff_fields.specs.declared.parts.Read.{Read}
+use Rattle.sff.specs.Walk.{firstBoundary, Placed, nextRead, Passage, walk, walkPast}
 use Rattle.sff.specs.Lookup.{readFrom}
-use Rattle.sff.specs.Reads.{readsAt, readsFrom, readsIn, readNumbers}
+use Rattle.sff.specs.Private.{Passes, recorded}
+use Rattle.sff.specs.Reads.{readsAt, readsFrom, readsIn}
+use Rattle.sff_fields.specs.Parts.{readNumbers}
 use Rattle.sff.proofs.walk.Laws.{next-ok, past-within, walk-within, walk-any, walk-length}
 use Rattle.sff.proofs.walk.Reach.{walk-reach}
 use Rattle.sff.proofs.walk.Split.{walk-split, walk-join, past-plus}
@@ -62,10 +64,6 @@ module _ (d : Header) (s : List ℕ) where
   unfolding farther
   farther-end b = refl
 
-  -- a walk of n reads from b on passes
-  abbrev pub Passes : ℕ → Boundary → Type 0
-  Passes n b = (w : Passage) × (answer (walk d n 0 b) s ≡ ok w)
-
   -- one read of it
   record First (n : ℕ) (b : Boundary) (w : Passage) : Type 0 where
     read : Placed
@@ -91,7 +89,7 @@ module _ (d : Header) (s : List ℕ) where
   same r q o h k = let z : passed r ≡ passed q = sym h ∙ k in cc
 
   -- where a walk passes, its next read does, and the walk behind it
-  module _ (n j : ℕ) (b : Boundary) (l : j < n) (p : Passes (n - j) b) where
+  module _ (n j : ℕ) (b : Boundary) (l : j < n) (p : Passes d s (n - j) b) where
     first : First (n - (j + 1)) b (p .0)
     first =
         let e : n - j ≡ suc (n - (j + 1)) = omega arith in
@@ -100,7 +98,7 @@ module _ (d : Header) (s : List ℕ) where
     pub passes-first : (r : Placed) × (run (nextRead d 0 b) s ≡ passed r)
     passes-first = (first .read, first .passes)
 
-    pub passes-next : (r : Placed) → run (nextRead d 0 b) s ≡ passed r → Passes (n - (j + 1)) (r .behind)
+    pub passes-next : (r : Placed) → run (nextRead d 0 b) s ≡ passed r → Passes d s (n - (j + 1)) (r .behind)
     passes-next r h = (first .rest, subst (λ (x : Placed). answer (walk d (n - (j + 1)) 0 (x .behind)) s ≡ ok (first .rest)) (same _ _ _ (first .passes) h) (first .goes-on))
 
   -- along a walk that passes lie the places that it gives
@@ -144,10 +142,6 @@ module _ (f : ℕ) (l : List ℕ) where
   unfolding readsAt
   reads-length [] = refl
   reads-length (p ∷ ps) = ap suc (reads-length ps)
-
--- a record is 17 numbers long
-pub record-wide : (a : Answer Read) → length (recordOf 17 readNumbers a) ≡ 17
-record-wide = Bulk.record-wide 17 readNumbers (omega arith) (λ _. refl)
 
 pub records-length : (v : List (Answer Read)) → length (records 17 readNumbers v) ≡ 17 * length v
 records-length = Bulk.records-length 17 readNumbers (omega arith) (λ _. refl)
@@ -233,41 +227,38 @@ written-behind a e o x y h k l r f g =
 
 -- the lent list after both halves are written, and then the rest
 module _ (d : Header) (s : List ℕ) (m n : ℕ) (b c : Boundary) (a : Halves d s m n b c) (l : m + m ≤ n) (o x y : List ℕ) (r : 17 * n ≤ length x) where
-  abbrev recorded : Passage → List ℕ
-  recorded w = records 17 readNumbers (readsAt (d .flows) s (w .starts))
-
-  recorded-length : (k : ℕ) (e : Boundary) (w : Passage) → answer (walk d k 0 e) s ≡ ok w → length (recorded w) ≡ 17 * k
+  recorded-length : (k : ℕ) (e : Boundary) (w : Passage) → answer (walk d k 0 e) s ≡ ok w → length (recorded d s w) ≡ 17 * k
   recorded-length k e w h =
       let p = records-length (readsAt (d .flows) s (w .starts)) in
       let q = reads-length (d .flows) s (w .starts) in
       let t = walk-length d s k 0 e w h in
       p ∙ ap (λ (j : ℕ). 17 * j) (q ∙ t)
 
-  pub halves-written : x ≡ recorded (a .one) ++ (recorded (a .other) ++ drop (17 * m + 17 * m) o) → y ≡ recorded (a .rest) ++ drop (17 * (n - m - m)) (take (length x - (17 * m + 17 * m)) (drop (17 * m + 17 * m) x)) → (w : Passage) → answer (walk d n 0 b) s ≡ ok w → take (17 * m + 17 * m) x ++ (y ++ drop (length x - (17 * m + 17 * m)) (drop (17 * m + 17 * m) x)) ≡ recorded w ++ drop (17 * n) o
+  pub halves-written : x ≡ recorded d s (a .one) ++ (recorded d s (a .other) ++ drop (17 * m + 17 * m) o) → y ≡ recorded d s (a .rest) ++ drop (17 * (n - m - m)) (take (length x - (17 * m + 17 * m)) (drop (17 * m + 17 * m) x)) → (w : Passage) → answer (walk d n 0 b) s ≡ ok w → take (17 * m + 17 * m) x ++ (y ++ drop (length x - (17 * m + 17 * m)) (drop (17 * m + 17 * m) x)) ≡ recorded d s w ++ drop (17 * n) o
   halves-written f g w h =
       let p = recorded-length m b (a .one) (a .one-ok) in
       let q = recorded-length m c (a .other) (a .other-ok) in
-      let e : length (recorded (a .one) ++ recorded (a .other)) ≡ 17 * m + 17 * m = length-append (recorded (a .one)) (recorded (a .other)) ∙ ap (λ (j : ℕ). j + length (recorded (a .other))) p ∙ ap (λ (j : ℕ). 17 * m + j) q in
+      let e : length (recorded d s (a .one) ++ recorded d s (a .other)) ≡ 17 * m + 17 * m = length-append (recorded d s (a .one)) (recorded d s (a .other)) ∙ ap (λ (j : ℕ). j + length (recorded d s (a .other))) p ∙ ap (λ (j : ℕ). 17 * m + j) q in
       let k : 17 * m + 17 * m + 17 * (n - m - m) ≡ 17 * n = omega arith in
-      let z = written-behind (recorded (a .one) ++ recorded (a .other)) (recorded (a .rest)) o x y (17 * m + 17 * m) (17 * (n - m - m)) e (omega arith) (f ∙ sym (append-assoc (recorded (a .one)) (recorded (a .other)) (drop (17 * m + 17 * m) o))) g in
-      let t : recorded w ≡ (recorded (a .one) ++ recorded (a .other)) ++ recorded (a .rest) = ap (λ (u : List ℕ). records 17 readNumbers (readsAt (d .flows) s u)) (a .all w h) ∙ records-append (d .flows) s (a .one .starts) (a .other .starts ++ a .rest .starts) ∙ ap (λ (u : List ℕ). recorded (a .one) ++ u) (records-append (d .flows) s (a .other .starts) (a .rest .starts)) ∙ sym (append-assoc (recorded (a .one)) (recorded (a .other)) (recorded (a .rest))) in
-      z ∙ ap (λ (j : ℕ). ((recorded (a .one) ++ recorded (a .other)) ++ recorded (a .rest)) ++ drop j o) k ∙ ap (λ (j : List ℕ). j ++ drop (17 * n) o) (sym t)
+      let z = written-behind (recorded d s (a .one) ++ recorded d s (a .other)) (recorded d s (a .rest)) o x y (17 * m + 17 * m) (17 * (n - m - m)) e (omega arith) (f ∙ sym (append-assoc (recorded d s (a .one)) (recorded d s (a .other)) (drop (17 * m + 17 * m) o))) g in
+      let t : recorded d s w ≡ (recorded d s (a .one) ++ recorded d s (a .other)) ++ recorded d s (a .rest) = ap (λ (u : List ℕ). records 17 readNumbers (readsAt (d .flows) s u)) (a .all w h) ∙ records-append (d .flows) s (a .one .starts) (a .other .starts ++ a .rest .starts) ∙ ap (λ (u : List ℕ). recorded d s (a .one) ++ u) (records-append (d .flows) s (a .other .starts) (a .rest .starts)) ∙ sym (append-assoc (recorded d s (a .one)) (recorded d s (a .other)) (recorded d s (a .rest))) in
+      z ∙ ap (λ (j : ℕ). ((recorded d s (a .one) ++ recorded d s (a .other)) ++ recorded d s (a .rest)) ++ drop j o) k ∙ ap (λ (j : List ℕ). j ++ drop (17 * n) o) (sym t)
 
 -- n reads from read i on, from the walks up to read i and over them
 module _ (d : Header) (n i : ℕ) (s : List ℕ) where
-  walk-refused : (k e : ℕ) → answer (walkPast d (i + n) 0 (front d)) s ≡ refused k e → refused k 0 ≡ answer (readsFrom d n i) s
+  walk-refused : (k e : ℕ) → answer (walkPast d (i + n) 0 (firstBoundary d)) s ≡ refused k e → refused k 0 ≡ answer (readsFrom d n i) s
   unfolding readsFrom walkPast
-  walk-refused k e h = simp (answer-bind, answer-at, map-refused (walk d (i + n) 0 (front d)) (λ w. w .behind) s k e h)
+  walk-refused k e h = simp (answer-bind, answer-at, map-refused (walk d (i + n) 0 (firstBoundary d)) (λ w. w .behind) s k e h)
 
-  pub first-failed : (t : Test) (e : ℕ) → run (walkPast d i 0 (front d)) s ≡ failed t e → refused (t .number) 0 ≡ answer (readsFrom d n i) s
-  first-failed t e h = walk-refused (t .number) e (answer-plain _ s ∙ ap answerOfOutcome (past-plus d s i n 0 (front d) ∙ ap (λ (o : Outcome Boundary). then o (λ c. run (walkPast d n (0 + i) c) s)) h))
+  pub first-failed : (t : Test) (e : ℕ) → run (walkPast d i 0 (firstBoundary d)) s ≡ failed t e → refused (t .number) 0 ≡ answer (readsFrom d n i) s
+  first-failed t e h = walk-refused (t .number) e (answer-plain _ s ∙ ap answerOfOutcome (past-plus d s i n 0 (firstBoundary d) ∙ ap (λ (o : Outcome Boundary). then o (λ c. run (walkPast d n (0 + i) c) s)) h))
 
-  pub first-short : (m : Need) (e : ℕ) → run (walkPast d i 0 (front d)) s ≡ short m e → refused 1 0 ≡ answer (readsFrom d n i) s
-  first-short m e h = walk-refused 1 e (answer-plain _ s ∙ ap answerOfOutcome (past-plus d s i n 0 (front d) ∙ ap (λ (o : Outcome Boundary). then o (λ c. run (walkPast d n (0 + i) c) s)) h))
+  pub first-short : (m : Need) (e : ℕ) → run (walkPast d i 0 (firstBoundary d)) s ≡ short m e → refused 1 0 ≡ answer (readsFrom d n i) s
+  first-short m e h = walk-refused 1 e (answer-plain _ s ∙ ap answerOfOutcome (past-plus d s i n 0 (firstBoundary d) ∙ ap (λ (o : Outcome Boundary). then o (λ c. run (walkPast d n (0 + i) c) s)) h))
 
-  module _ (b : Boundary) (h : run (walkPast d i 0 (front d)) s ≡ passed b) where
-    both : run (walkPast d (i + n) 0 (front d)) s ≡ run (walkPast d n i b) s
-    both = past-plus d s i n 0 (front d) ∙ ap (λ (o : Outcome Boundary). then o (λ c. run (walkPast d n (0 + i) c) s)) h ∙ ap (λ (j : ℕ). run (walkPast d n j b) s) (zero-add i)
+  module _ (b : Boundary) (h : run (walkPast d i 0 (firstBoundary d)) s ≡ passed b) where
+    both : run (walkPast d (i + n) 0 (firstBoundary d)) s ≡ run (walkPast d n i b) s
+    both = past-plus d s i n 0 (firstBoundary d) ∙ ap (λ (o : Outcome Boundary). then o (λ c. run (walkPast d n (0 + i) c) s)) h ∙ ap (λ (j : ℕ). run (walkPast d n j b) s) (zero-add i)
 
     pub then-failed : (t : Test) (e : ℕ) → run (walkPast d n i b) s ≡ failed t e → refused (t .number) 0 ≡ answer (readsFrom d n i) s
     then-failed t e k = walk-refused (t .number) e (answer-plain _ s ∙ ap answerOfOutcome (both ∙ k))
@@ -283,13 +274,13 @@ module _ (d : Header) (n i : ℕ) (s : List ℕ) where
       pub reads-answered : answer (readsFrom d n i) s ≡ ok (readsAt (d .flows) s (over .0 .starts))
       unfolding readsFrom
       reads-answered =
-          let p = passage d i 0 (front d) s b h in
+          let p = passage d i 0 (firstBoundary d) s b h in
           let w = over .0 in
           let v = subst (λ (x : Boundary). answer (walk d n 0 x) s ≡ ok w) (sym (p .2)) (over .1) in
-          let j = walk-join d s i n 0 (front d) (p .0) w (p .1) v in
-          let l = past-within d s i 0 (front d) b u h in
+          let j = walk-join d s i n 0 (firstBoundary d) (p .0) w (p .1) v in
+          let l = past-within d s i 0 (firstBoundary d) b u h in
           let m = walk-within d s n 0 b l w (over .1) in
-          let t : drop i (p .0 .starts ++ w .starts) ≡ w .starts = drop-at (p .0 .starts) (w .starts) i (walk-length d s i 0 (front d) (p .0) (p .1)) in
+          let t : drop i (p .0 .starts ++ w .starts) ≡ w .starts = drop-at (p .0 .starts) (w .starts) i (walk-length d s i 0 (firstBoundary d) (p .0) (p .1)) in
           simp (answer-bind, answer-at, j, answer-need-present 0 (w .behind .position) s m, answer-done, t) (ap ok (reads-within d s n 0 (w .behind .position) b w (over .1) (omega arith)))
 
       pub reads-counted : length (readsAt (d .flows) s (over .0 .starts)) ≡ n

@@ -16,11 +16,11 @@ use Rattle.reading.proofs.Steps.{answer-bind}
 use Rattle.reading.proofs.Passed.{bind-ok, done-ok, must-ok, need-ok, at-ok, bind-answered}
 use Rattle.reading.proofs.bulk.Laws.{answersFrom, answers-are, of-item}
 use Rattle.reading.proofs.Tests.{number-within}
-use Rattle.sff.specs.declared.header.Header.{Header}
-use Rattle.sff.specs.declared.lookup.Read.{Read}
+use Rattle.sff_fields.specs.declared.header.Header.{Header}
+use Rattle.sff_fields.specs.declared.parts.Read.{Read}
 use Rattle.sff.specs.Header.{header}
-use Rattle.sff.specs.Walk.{front, Passage, walk}
-use Rattle.sff.specs.declared.read.ReadHeader.{ReadHeader}
+use Rattle.sff.specs.Walk.{firstBoundary, Passage, walk}
+use Rattle.sff_fields.specs.declared.read.ReadHeader.{ReadHeader}
 use Rattle.sff.specs.Read.{framing}
 use Rattle.sff.specs.Lookup.{readContents, readFrom, readIn, readReading}
 use Rattle.sff.specs.Reads.{readsAt, readsFrom, readsIn, readsReading}
@@ -38,7 +38,7 @@ record Listed (s : List ℕ) (first room : ℕ) (v : List (Answer Read)) : Type 
   high : first ≤ head .reads
   enough : 17 ≤ room
   walked : Passage
-  walked-ok : answer (walk head (first - 1 + fitting 17 (leftFrom (head .reads) first) room) 0 (front head)) s ≡ ok walked
+  walked-ok : answer (walk head (first - 1 + fitting 17 (leftFrom (head .reads) first) room) 0 (firstBoundary head)) s ≡ ok walked
   items : v ≡ readsAt (head .flows) (take (walked .behind .position) s) (drop (first - 1) (walked .starts))
 
 listed-ok : (s : List ℕ) (first room : ℕ) (v : List (Answer Read)) → answer (readsReading first room) s ≡ ok v → Listed s first room v
@@ -89,13 +89,13 @@ module _ (s : List ℕ) (first room : ℕ) (v : List (Answer Read)) (g : Listed 
 
   counted : length v ≡ n
   counted =
-      let w = walk-length d s (first - 1 + n) 0 (front d) (g .walked) (g .walked-ok) in
+      let w = walk-length d s (first - 1 + n) 0 (firstBoundary d) (g .walked) (g .walked-ok) in
       let l = length-drop (first - 1) (g .walked .starts) in
       ap length (g .items) ∙ reads-length (d .flows) _ (drop (first - 1) (g .walked .starts)) ∙ omega arith
 
   -- the items answer as on the file itself
   on-file : v ≡ drop (first - 1) (readsAt (d .flows) s (g .walked .starts))
-  on-file = g .items ∙ reads-drop (d .flows) _ (first - 1) (g .walked .starts) ∙ ap (λ (l : List (Answer Read)). drop (first - 1) l) (reads-within d s (first - 1 + n) 0 (g .walked .behind .position) (front d) (g .walked) (g .walked-ok) (omega arith))
+  on-file = g .items ∙ reads-drop (d .flows) _ (first - 1) (g .walked .starts) ∙ ap (λ (l : List (Answer Read)). drop (first - 1) l) (reads-within d s (first - 1 + n) 0 (g .walked .behind .position) (firstBoundary d) (g .walked) (g .walked-ok) (omega arith))
 
   module _ (j : ℕ) (h : j < n) where
     -- read j of the items is read first + j
@@ -103,11 +103,11 @@ module _ (s : List ℕ) (first room : ℕ) (v : List (Answer Read)) (g : Listed 
     unfolding readReading
     item-is =
         let l = g .low in
-        let q = nth d s (first - 1 + n) (first - 1 + j) (front d) (g .walked) (omega arith) (g .walked-ok) in
+        let q = nth d s (first - 1 + n) (first - 1 + j) (firstBoundary d) (g .walked) (omega arith) (g .walked-ok) in
         let e : first - 1 + j ≡ first + j - 1 = omega arith in
         let p = next-ok d 0 (q .before .behind) s (q .read) (q .read-ok 0) in
         let z : getD (g .walked .starts) (first - 1 + j) 0 ≡ p .skipped .position = q .start ∙ sym (p .start) in
-        let b = before-is d (first + j) s (q .before) (omega arith) (omega (arith, g .high)) (subst (λ (i : ℕ). answer (walk d i 0 (front d)) s ≡ ok (q .before)) e (q .before-ok 0)) in
+        let b = before-is d (first + j) s (q .before) (omega arith) (omega (arith, g .high)) (subst (λ (i : ℕ). answer (walk d i 0 (firstBoundary d)) s ≡ ok (q .before)) e (q .before-ok 0)) in
         let c = in-found d (first + j) s (q .before .behind) b (p .skipped) (answer-ok _ s (p .skipped) (p .skip-ok)) in
         ap (λ (i : ℕ). answer (readFrom (d .flows) i) s) z ∙ c ∙ bind-answered header (λ x. readIn x (first + j)) s d (g .head-ok)
 
@@ -120,7 +120,7 @@ module _ (s : List ℕ) (first room : ℕ) (v : List (Answer Read)) (g : Listed 
   -- what it answers is its contents' answer
   own : (j : ℕ) → j < n → OfItem (answer (readReading (first + j)) s)
   own j h =
-      let q = nth d s (first - 1 + n) (first - 1 + j) (front d) (g .walked) (omega arith) (g .walked-ok) in
+      let q = nth d s (first - 1 + n) (first - 1 + j) (firstBoundary d) (g .walked) (omega arith) (g .walked-ok) in
       let p = next-ok d 0 (q .before .behind) s (q .read) (q .read-ok 0) in
       let f = subst (λ (i : ℕ). run (framing (d .flows) i) s ≡ passed (q .read .behind .position)) (sym (q .start)) (answer-ok _ s _ (p .framing-ok)) in
       subst OfItem (from-contents (d .flows) (getD (g .walked .starts) (first - 1 + j) 0) s _ f _ refl ∙ item-is j h) (contents-own (d .flows) _ _ s)

@@ -13,11 +13,11 @@ use Rattle.reading.proofs.Cut.{run-ok, answer-ok, answer-plain}
 use Rattle.reading.proofs.Steps.{then, run-bind, run-done, run-at, run-need-present, run-need-absent, answer-bind, answer-must, answer-done, answer-at, answerAt}
 use Rattle.reading.proofs.Passed.{bind-ok, done-ok, must-ok, need-ok, at-ok}
 use Rattle.reading.proofs.Tests.{number-within}
-use Rattle.sff.specs.declared.header.Header.{Header}
+use Rattle.sff_fields.specs.declared.header.Header.{Header}
 use Rattle.sff.specs.declared.walk.Boundary.{Boundary}
-use Rattle.sff.specs.Padding.{padded}
+use Rattle.sff_fields.specs.Padding.{padded}
 use Rattle.sff.specs.Read.{framing}
-use Rattle.sff.specs.Walk.{front, behindIndex, skipIndex, Placed, nextRead, Passage, walk, walkPast, beforeRead}
+use Rattle.sff.specs.Walk.{firstBoundary, behindIndex, skipIndex, Placed, nextRead, Passage, walk, walkPast, beforeRead}
 use Rattle.sff.proofs.read.Laws.{framing-within}
 
 module _ (d : Header) (b : Boundary) (s : List ℕ) where
@@ -149,15 +149,15 @@ module _ (d : Header) (k : ℕ) (s : List ℕ) where
     before-past l = simp (answer-bind, answer-must, le-leb 1 k h, lt-leb k (d .reads) l)
 
     module _ (l : k ≤ d .reads) where
-      before-walk : answerAt 0 (answer (walkPast d (k - 1) 0 (front d)) s) ≡ answer (beforeRead d k) s
+      before-walk : answerAt 0 (answer (walkPast d (k - 1) 0 (firstBoundary d)) s) ≡ answer (beforeRead d k) s
       unfolding beforeRead holds
       before-walk = simp (answer-bind, answer-must, le-leb 1 k h, le-leb k (d .reads) l, answer-at)
 
-      pub before-found : (o : Outcome Boundary) → o ≡ run (walkPast d (k - 1) 0 (front d)) s → answerAt 0 (answerOfOutcome o) ≡ answer (beforeRead d k) s
+      pub before-found : (o : Outcome Boundary) → o ≡ run (walkPast d (k - 1) 0 (firstBoundary d)) s → answerAt 0 (answerOfOutcome o) ≡ answer (beforeRead d k) s
       before-found o q = ap (λ (x : Outcome Boundary). answerAt 0 (answerOfOutcome x)) q ∙ ap (answerAt 0) (sym (answer-plain _ s)) ∙ before-walk
 
   -- where there is one, the read is one of the file's, the walk has come there, and the boundary lies within the file
-  pub before-walked : (b : Boundary) → answer (beforeRead d k) s ≡ ok b → (1 ≤ k) × (k ≤ d .reads) × (answer (walkPast d (k - 1) 0 (front d)) s ≡ ok b)
+  pub before-walked : (b : Boundary) → answer (beforeRead d k) s ≡ ok b → (1 ≤ k) × (k ≤ d .reads) × (answer (walkPast d (k - 1) 0 (firstBoundary d)) s ≡ ok b)
   unfolding beforeRead holds
   before-walked b w =
       let a = bind-ok _ _ s b w in
@@ -167,10 +167,10 @@ module _ (d : Header) (k : ℕ) (s : List ℕ) where
   pub before-ok : (b : Boundary) → d .«header_length» ≤ length s → answer (beforeRead d k) s ≡ ok b → (1 ≤ k) × (k ≤ d .reads) × (b .position ≤ length s)
   before-ok b u w =
       let n = before-walked b w in
-      (n .0, n .1, past-within d s (k - 1) 0 (front d) b u (answer-ok _ s b (n .2)))
+      (n .0, n .1, past-within d s (k - 1) 0 (firstBoundary d) b u (answer-ok _ s b (n .2)))
 
 -- the boundary before a read of the file, from what is walked before it
-pub before-is : (d : Header) (k : ℕ) (s : List ℕ) (v : Passage) → 1 ≤ k → k ≤ d .reads → answer (walk d (k - 1) 0 (front d)) s ≡ ok v → answer (beforeRead d k) s ≡ ok (v .behind)
+pub before-is : (d : Header) (k : ℕ) (s : List ℕ) (v : Passage) → 1 ≤ k → k ≤ d .reads → answer (walk d (k - 1) 0 (firstBoundary d)) s ≡ ok v → answer (beforeRead d k) s ≡ ok (v .behind)
 unfolding beforeRead walkPast holds
 before-is d k s v h l w = simp (answer-bind, answer-must, le-leb 1 k h, le-leb k (d .reads) l, answer-at, w, answer-done)
 

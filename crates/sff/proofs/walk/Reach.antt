@@ -10,37 +10,38 @@ use Rattle.reading.specs.Check.{ok, answer, done, need, _>>_}
 use Rattle.reading.proofs.Needed.{reach}
 use Rattle.reading.proofs.Steps.{reach-must, reach-need, reach-done, reach-at}
 use Rattle.reading.proofs.Passed.{bind-ok, done-ok, at-ok}
-use Rattle.sff.specs.declared.header.Header.{Header}
-use Rattle.sff.specs.declared.read.ReadHeader.{ReadHeader}
+use Rattle.sff_fields.specs.declared.header.Header.{Header}
+use Rattle.sff_fields.specs.declared.read.ReadHeader.{ReadHeader}
 use Rattle.sff.specs.declared.walk.Boundary.{Boundary}
-use Rattle.sff.specs.Padding.{padded}
-use Rattle.sff.specs.Read.{readHeaderOf, dataStart, readEnd, Present, present, framing}
+use Rattle.sff_fields.specs.Padding.{padded}
+use Rattle.sff.specs.Read.{readHeaderOf, PresentRead, presentData, presentRead, framing}
+use Rattle.sff_fields.specs.Read.{dataStart, readEnd, readLengthCheck}
 use Rattle.sff.specs.Walk.{behindIndex, skipIndex, Placed, nextRead, Passage, walk}
-use Rattle.sff.proofs.padding.Laws.{padded-bounds}
+use Rattle.sff_fields.proofs.padding.Laws.{padded-bounds}
 use Rattle.sff.proofs.read.Laws.{present-there, field-start}
 
 last : (r p h e : ℕ) → r ≡ max (p + 16) (max (p + h) e) → 16 ≤ h → p + h ≤ e → (r ≡ e) × (p ≤ e)
 last r p h e q a b = (omega arith, omega arith)
 
 -- a read's header has at least 16 bytes, so its end is the last thing needed
-pub present-reach : (f p : ℕ) (s : List ℕ) (r : Present) → answer (present f p) s ≡ ok r → (reach (present f p) s ≡ readEnd f (r .fields)) × (p ≤ readEnd f (r .fields))
-unfolding present
+pub present-reach : (f p : ℕ) (s : List ℕ) (r : PresentRead) → answer (presentRead f p) s ≡ ok r → (reach (presentRead f p) s ≡ readEnd f (r .fields)) × (p ≤ readEnd f (r .fields))
+unfolding presentRead presentData readLengthCheck
 present-reach f p s r w =
     let a = bind-ok _ _ s r w in
     let b = bind-ok _ _ s r (a .2) in
     let c = bind-ok _ _ s r (b .2) in
     let d = bind-ok _ _ s r (c .2) in
     let q = readHeaderOf (a .0) p in
-    let e = ap (λ (x : Present). x .fields) (done-ok _ r s (d .2)) in
-    let m : reach (present f p) s ≡ max (p + 16) (max (dataStart q) (readEnd f q)) = simp (a .3, b .3, c .3, d .3, reach-must, reach-need, reach-done) (omega arith) in
-    let u : reach (present f p) s ≡ max (p + 16) (max (dataStart (r .fields)) (readEnd f (r .fields))) = m ∙ ap (λ (x : ReadHeader). max (p + 16) (max (dataStart x) (readEnd f x))) e in
+    let e = ap (λ (x : PresentRead). x .fields) (done-ok _ r s (d .2)) in
+    let m : reach (presentRead f p) s ≡ max (p + 16) (max (dataStart q) (readEnd f q)) = simp (a .3, b .3, c .3, d .3, reach-must, reach-need, reach-done) (omega arith) in
+    let u : reach (presentRead f p) s ≡ max (p + 16) (max (dataStart (r .fields)) (readEnd f (r .fields))) = m ∙ ap (λ (x : ReadHeader). max (p + 16) (max (dataStart x) (readEnd f x))) e in
     let g = present-there f p s r w in
     let z : r .fields .start ≡ p = ap (λ (x : ReadHeader). x .start) (g .header) ∙ field-start p s in
     let n = g .named in
     let h = padded-bounds (16 + r .fields .«name_length») in
     let k = padded-bounds (2 * f + 3 * r .fields .bases) in
     let v : readEnd f (r .fields) ≡ p + r .fields .«header_length» + padded (2 * f + 3 * r .fields .bases) = rw z in
-    last (reach (present f p) s) p (r .fields .«header_length») (readEnd f (r .fields)) (u ∙ rw z) (omega (arith, n, h)) (omega (arith, v))
+    last (reach (presentRead f p) s) p (r .fields .«header_length») (readEnd f (r .fields)) (u ∙ rw z) (omega (arith, n, h)) (omega (arith, v))
 
 pub framing-reach : (f p : ℕ) (s : List ℕ) (e : ℕ) → answer (framing f p) s ≡ ok e → (reach (framing f p) s ≡ e) × (p ≤ e)
 unfolding framing

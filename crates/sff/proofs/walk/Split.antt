@@ -9,7 +9,7 @@ use lib.Seq.{getD-append-seam}
 use Rattle.reading.specs.Check.{Outcome, passed, failed, short, ok, run, answer}
 use Rattle.reading.proofs.Steps.{then, answer-bind, answer-done}
 use Rattle.reading.proofs.Passed.{bind-ok, done-ok}
-use Rattle.sff.specs.declared.header.Header.{Header}
+use Rattle.sff_fields.specs.declared.header.Header.{Header}
 use Rattle.sff.specs.declared.walk.Boundary.{Boundary}
 use Rattle.sff.specs.Walk.{Placed, nextRead, Passage, walk, walkPast}
 use Rattle.sff.proofs.walk.Laws.{past-failed, past-short, past-next, past-end, next-any, walk-any, walk-length}

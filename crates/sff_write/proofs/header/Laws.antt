@@ -4,7 +4,7 @@ use mathlib.Core.Path.{_≡_, refl}
 use mathlib.Core.List.{List, _++_}
 use native.Mathlib.Omega.{arith}
 use lib.ListN.{length, replicate, length-append, length-replicate}
-use Rattle.sff.specs.Padding.{padding, padded}
+use Rattle.sff_fields.specs.Padding.{padding, padded}
 use Rattle.writing.specs.Put.{digits, put}
 use Rattle.writing.proofs.Over.{follow}
 use Rattle.writing.proofs.Pieces.{three}

@@ -11,19 +11,20 @@ use Rattle.reading.specs.Choice.{pick}
 use Rattle.reading.specs.Check.{ok, refused, answer, holds}
 use Rattle.reading.proofs.Steps.{answer-bind, answer-must}
 use Rattle.reading.proofs.Passed.{bind-ok, must-ok}
-use Rattle.sff.specs.declared.read.ReadHeader.{ReadHeader}
-use Rattle.sff.specs.Padding.{padding, padded}
-use Rattle.sff.specs.Clips.{clipsCheck}
+use Rattle.sff_fields.specs.declared.read.ReadHeader.{ReadHeader}
+use Rattle.sff_fields.specs.Padding.{padding, padded}
+use Rattle.sff_fields.specs.Clips.{clipsCheck}
 use Rattle.contents.specs.Steps.{stepsCheck}
 use Rattle.writing.specs.Put.{digits, words, put}
 use Rattle.writing.proofs.Over.{follow}
 use Rattle.writing.proofs.Pieces.{three, four}
 use Rattle.writing.proofs.Words.{length-words}
 use Rattle.sff_write.specs.declared.read.Clips.{Clips}
-use Rattle.sff_write.specs.Read.{Given, clipsFit, nameFits, lengthsCheck, headerWith, contentsCheck, lengthBytes, clipBytes, fieldBytes, readBytes, Fitting}
+use Rattle.sff_write.specs.Read.{GivenRead, clipsFit, nameFits, lengthsCheck, headerWith, contentsCheck, lengthBytes, clipBytes, fieldBytes, readBytes}
+use Rattle.sff_write.specs.Private.{Fitting}
 
 -- what the lengths' checks leave
-pub fitting : (f : ℕ) (r : Given) (l : List ℕ) (u : Unit {0}) → answer (lengthsCheck f r) l ≡ ok u → Fitting f r
+pub fitting : (f : ℕ) (r : GivenRead) (l : List ℕ) (u : Unit {0}) → answer (lengthsCheck f r) l ≡ ok u → Fitting f r
 unfolding lengthsCheck nameFits clipsFit holds
 fitting f r l u h =
     let a = bind-ok _ _ l u h in
@@ -36,19 +37,17 @@ fitting f r l u h =
     let j = bind-ok _ _ l u (i .2) in
     let k = bind-ok _ _ l u (j .2) in
     record {
-      named = leb-true _ _ (must-ok _ _ _ l (a .0) (a .1));
-      few = leb-true _ _ (must-ok _ _ _ l (b .0) (b .1));
+      name-fits = leb-true _ _ (must-ok _ _ _ l (a .0) (a .1));
+      flows-fit = leb-true _ _ (must-ok _ _ _ l (b .0) (b .1));
       flows-agree = eqb-true _ _ (must-ok _ _ _ l (c .0) (c .1));
       steps-agree = eqb-true _ _ (must-ok _ _ _ l (d .0) (d .1));
       qualities-agree = eqb-true _ _ (must-ok _ _ _ l (e .0) (e .1));
-      bases = leb-true _ _ (must-ok _ _ _ l (g .0) (g .1));
-      quality-left = leb-true _ _ (must-ok _ _ _ l (i .0) (i .1));
-      quality-right = leb-true _ _ (must-ok _ _ _ l (j .0) (j .1));
-      adapter-left = leb-true _ _ (must-ok _ _ _ l (k .0) (k .1));
-      adapter-right = leb-true _ _ (must-ok _ _ _ l u (k .2));
+      bases-fit = leb-true _ _ (must-ok _ _ _ l (g .0) (g .1));
+      clips-fit =
+          (leb-true _ _ (must-ok _ _ _ l (i .0) (i .1)), leb-true _ _ (must-ok _ _ _ l (j .0) (j .1)), leb-true _ _ (must-ok _ _ _ l (k .0) (k .1)), leb-true _ _ (must-ok _ _ _ l u (k .2)));
     }
 
-pub lengths-ok : (f : ℕ) (r : Given) (b : Bool) → pick b (ok tt) (refused 9 0) ≡ answer (lengthsCheck f r) [] → b ≡ true → answer (lengthsCheck f r) [] ≡ ok tt
+pub lengths-ok : (f : ℕ) (r : GivenRead) (b : Bool) → pick b (ok tt) (refused 9 0) ≡ answer (lengthsCheck f r) [] → b ≡ true → answer (lengthsCheck f r) [] ≡ ok tt
 lengths-ok f r b q h = sym q ∙ rw h
 
 -- the header length of a read
@@ -64,7 +63,7 @@ module _ (n : ℕ) (l : List ℕ) where
   name-is z e = simp (answer-must, e)
 
 -- the lengths, from what the name's length answers
-module _ (f : ℕ) (r : Given) (l : List ℕ) (a : Bool) (q : pick a (ok tt) (refused 9 0) ≡ answer (nameFits (length (r .name))) l) where
+module _ (f : ℕ) (r : GivenRead) (l : List ℕ) (a : Bool) (q : pick a (ok tt) (refused 9 0) ≡ answer (nameFits (length (r .name))) l) where
   pub lengths-name : a ≡ false → refused 9 0 ≡ answer (lengthsCheck f r) l
   unfolding lengthsCheck
   lengths-name h = simp (answer-bind, ← q, h)
@@ -154,12 +153,12 @@ bases-put l l1 l2 l3 p u v w z e1 e2 e3 e4 h =
     four l l1 l2 l3 p u v w (replicate z 0) e1 e2 e3 e4 (omega arith)
 
 -- a read's length
-pub length-read : (d : ReadHeader) (r : Given) → length (r .steps) ≡ length (r .letters) → length (r .qualities) ≡ length (r .letters) → length (readBytes d r) ≡ padded (16 + length (r .name)) + padded (2 * length (r .flows) + 3 * length (r .letters))
+pub length-read : (d : ReadHeader) (r : GivenRead) → length (r .steps) ≡ length (r .letters) → length (r .qualities) ≡ length (r .letters) → length (readBytes d r) ≡ padded (16 + length (r .name)) + padded (2 * length (r .flows) + 3 * length (r .letters))
 unfolding readBytes padded
 length-read d r a b = simp (length-append, length-lengths d, length-clips d, length-replicate, length-words) (omega arith)
 
 -- the whole read, in three writes
-pub read-put : (l l1 l2 : List ℕ) {l3 : List ℕ} (p y z : ℕ) (d : ReadHeader) (r : Given) → y ≡ padding (16 + length (r .name)) → z ≡ padding (2 * length (r .flows) + 3 * length (r .letters))
+pub read-put : (l l1 l2 : List ℕ) {l3 : List ℕ} (p y z : ℕ) (d : ReadHeader) (r : GivenRead) → y ≡ padding (16 + length (r .name)) → z ≡ padding (2 * length (r .flows) + 3 * length (r .letters))
     → l1 ≡ put l p (fieldBytes d ++ (r .name ++ replicate y 0)) → l2 ≡ put l1 (p + (16 + length (r .name)) + y) (words (r .flows) (length (r .flows)) 0) → l3 ≡ put l2 (p + (16 + length (r .name)) + y + 2 * length (r .flows)) (r .steps ++ (r .letters ++ (r .qualities ++ replicate z 0)))
     → p + length (readBytes d r) ≤ length l → l3 ≡ put l p (readBytes d r)
 unfolding readBytes

@@ -10,14 +10,15 @@ use Rattle.reading.specs.Choice.{pick}
 use Rattle.reading.specs.Check.{Answer, ok, refused, mapAnswer, answer, holds}
 use Rattle.reading.proofs.Steps.{answer-bind, answer-must, answer-done}
 use Rattle.reading.proofs.Passed.{bind-ok, must-ok, done-ok}
-use Rattle.sff.specs.declared.read.ReadHeader.{ReadHeader}
-use Rattle.sff.specs.Padding.{padding, padded}
-use Rattle.sff.specs.Clips.{clipsCheck}
+use Rattle.sff_fields.specs.declared.read.ReadHeader.{ReadHeader}
+use Rattle.sff_fields.specs.Padding.{padding, padded}
+use Rattle.sff_fields.specs.Clips.{clipsCheck}
 use Rattle.contents.specs.Steps.{stepsCheck}
 use Rattle.writing.specs.Put.{put}
 use Rattle.sff_write.specs.declared.write.Writer.{Writer}
 use Rattle.sff_write.specs.Header.{headerSize, headerBytes}
-use Rattle.sff_write.specs.Read.{Given, headerWith, headerFor, lengthsCheck, contentsCheck, readBytes, Fitting}
+use Rattle.sff_write.specs.Read.{GivenRead, headerWith, headerFor, lengthsCheck, contentsCheck, readBytes}
+use Rattle.sff_write.specs.Private.{Fitting}
 use Rattle.sff_write.specs.Write.{Piece, behind, writtenAt, beginning, nextState, addingFit, adding, finishing}
 use Rattle.sff_write.proofs.read.Laws.{fitting, size-is, length-read}
 
@@ -61,7 +62,7 @@ begin-written reads letters key o l s h k e m i q =
     told-ok (answer (beginning reads letters key (length o)) []) 0 o _ (record { reads = reads; written = 0; flows = length letters; at = s }) l (begin-done reads letters key (length o) h k s e m i) (rw e) q
 
 -- what the code has made of a read whose lengths fit: its header fields, its length, and what its contents answer
-module _ (f p : ℕ) (r : Given) (fit : Fitting f r) (d : ReadHeader) (e : d ≡ headerFor p r) where
+module _ (f p : ℕ) (r : GivenRead) (fit : Fitting f r) (d : ReadHeader) (e : d ≡ headerFor p r) where
   header-length : d .«header_length» ≡ padded (16 + length (r .name))
   unfolding headerWith
   header-length = rw e
@@ -79,7 +80,7 @@ module _ (f p : ℕ) (r : Given) (fit : Fitting f r) (d : ReadHeader) (e : d ≡
   fit-answer b q = rw (← e, ← (fit .flows-agree)) q
 
 -- a read whose lengths fit
-module _ (w : Writer) (r : Given) (room : ℕ) (b : Bool) (q : pick b (ok tt) (refused 11 0) ≡ answer (contentsCheck (headerFor (w .at) r) (w .flows) (r .steps)) []) where
+module _ (w : Writer) (r : GivenRead) (room : ℕ) (b : Bool) (q : pick b (ok tt) (refused 11 0) ≡ answer (contentsCheck (headerFor (w .at) r) (w .flows) (r .steps)) []) where
   pub fit-contents : b ≡ false → refused 11 0 ≡ answer (addingFit w r room) []
   unfolding addingFit
   fit-contents h = simp (answer-bind, ← q, h)
@@ -94,13 +95,13 @@ module _ (w : Writer) (r : Given) (room : ℕ) (b : Bool) (q : pick b (ok tt) (r
     fit-done k = simp (answer-bind, answer-must, answer-done, ← q, h, le-leb _ _ k)
 
 -- a read that is written
-pub fit-written : (w : Writer) (r : Given) (o l : List ℕ) (b : Bool) (d : ReadHeader) (s : ℕ) → pick b (ok tt) (refused 11 0) ≡ answer (contentsCheck (headerFor (w .at) r) (w .flows) (r .steps)) [] → b ≡ true → d ≡ headerFor (w .at) r → s ≡ length (readBytes (headerFor (w .at) r) r) → w .at + s ≤ length o → l ≡ put o (w .at) (readBytes d r)
+pub fit-written : (w : Writer) (r : GivenRead) (o l : List ℕ) (b : Bool) (d : ReadHeader) (s : ℕ) → pick b (ok tt) (refused 11 0) ≡ answer (contentsCheck (headerFor (w .at) r) (w .flows) (r .steps)) [] → b ≡ true → d ≡ headerFor (w .at) r → s ≡ length (readBytes (headerFor (w .at) r) r) → w .at + s ≤ length o → l ≡ put o (w .at) (readBytes d r)
     → (_≡_ {A = Answer Writer} (ok (record { reads = w .reads; written = w .written + 1; flows = w .flows; at = w .at + s })) (mapAnswer behind (answer (addingFit w r (length o)) []))) × (l ≡ writtenAt (w .at) (answer (addingFit w r (length o)) []) o)
 fit-written w r o l b d s q h e n i k =
     told-ok (answer (addingFit w r (length o)) []) (w .at) o _ (record { reads = w .reads; written = w .written + 1; flows = w .flows; at = w .at + s }) l (fit-done w r (length o) b q h (rw n at i)) (rw n) (k ∙ ap (λ (x : ReadHeader). put o (w .at) (readBytes x r)) e)
 
 -- the next read
-module _ (w : Writer) (r : Given) (room : ℕ) where
+module _ (w : Writer) (r : GivenRead) (room : ℕ) where
   pub add-past : w .reads ≤ w .written → refused 9 0 ≡ answer (adding w r room) []
   unfolding adding holds
   add-past h = simp (answer-bind, answer-must, le-ltb _ _ h)
@@ -133,7 +134,7 @@ begin-passed reads letters key room x h =
     record { fits = leb-true _ _ (must-ok _ _ _ [] (c .0) (c .1)); enough = leb-true _ _ (must-ok _ _ _ [] (d .0) (d .1)); piece = sym (done-ok _ x [] (d .2)) }
 
 -- what a read that was written has passed
-pub record Added (w : Writer) (r : Given) (room : ℕ) (x : Piece) : Type 0 where
+pub record Added (w : Writer) (r : GivenRead) (room : ℕ) (x : Piece) : Type 0 where
   pub below : w .written < w .reads
   pub fit : Fitting (w .flows) r
   pub clips : answer (clipsCheck (headerFor (w .at) r)) [] ≡ ok tt
@@ -141,7 +142,7 @@ pub record Added (w : Writer) (r : Given) (room : ℕ) (x : Piece) : Type 0 wher
   pub enough : w .at + length (readBytes (headerFor (w .at) r) r) ≤ room
   pub piece : x ≡ record { bytes = readBytes (headerFor (w .at) r) r; state = nextState w r }
 
-pub add-passed : (w : Writer) (r : Given) (room : ℕ) (x : Piece) → answer (adding w r room) [] ≡ ok x → Added w r room x
+pub add-passed : (w : Writer) (r : GivenRead) (room : ℕ) (x : Piece) → answer (adding w r room) [] ≡ ok x → Added w r room x
 unfolding adding addingFit contentsCheck holds
 add-passed w r room x h =
     let a = bind-ok _ _ [] x h in

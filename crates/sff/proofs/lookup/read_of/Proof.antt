@@ -1,11 +1,11 @@
 use Prim.Native.Nat.{_+_}
 use mathlib.Core.Path.{_∙_, ap}
 use native.Mathlib.Omega.{arith}
-use borrow.Author.Needs.{needs}
 use Rattle.reading.specs.Part.{Span}
-use Rattle.sff.specs.Read.{flowsStart, stepsStart, lettersStart, qualitiesStart}
-use Rattle.sff.specs.Lookup.{readOf}
+use Rattle.sff_fields.specs.Read.{flowsStart, stepsStart, lettersStart, qualitiesStart}
+use Rattle.sff_fields.specs.Parts.{readOf}
 use Rattle.sff.proofs.lookup.Laws.{last-below, insert-of}
+use borrow.Author.Needs.{needs}
 use Rattle.sff.proofs.lookup.read_of.Statement.{statement}
 use Rattle.sff.proofs.lookup.read_of.Tie as tie
 

@@ -3,7 +3,8 @@ use native.Mathlib.Omega.{arith}
 use borrow.Author.Needs.{needs}
 use Rattle.reading.specs.Part.{shown}
 use Rattle.reading.proofs.Parts.{part-there}
-use Rattle.sff.specs.Lookup.{found, spanOf}
+use Rattle.sff_fields.specs.Answers.{answerOfReadFound}
+use Rattle.sff_fields.specs.Parts.{spanOf}
 use Rattle.sff.proofs.lookup.Laws.{number-fits, part-placed}
 use Rattle.sff.proofs.lookup.read_part.Statement.{statement}
 use Rattle.sff.proofs.lookup.read_part.Tie as tie
@@ -37,7 +38,7 @@ returns-2 c =
     let o = a .before .before in
     let g = o .before .before .args in
     let r = a .r .given .0 .0 in
-    let w = number-fits (g .s .now) (g .k) r (sym (o .read-number .ensures) ∙ ap found (a .r .given .1)) (g .which) in
+    let w = number-fits (g .s .now) (g .k) r (sym (o .read-number .ensures) ∙ ap answerOfReadFound (a .r .given .1)) (g .which) in
     c .part2 .ensures ∙ part-placed (shown (g .s)) _ _ (spanOf (g .which) r) (c .before .place-of .ensures) w ∙ rw (← o .read-number .ensures, a .r .given .1)
 
 pub read-part-spec : {M : Type 1} → statement M

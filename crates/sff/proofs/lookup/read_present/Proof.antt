@@ -3,7 +3,7 @@ use mathlib.Core.Path.{_∙_, ap}
 use native.Mathlib.Omega.{arith}
 use borrow.Author.Needs.{needs}
 use Rattle.reading.specs.Check.{ok}
-use Rattle.sff.specs.Read.{stepsStart}
+use Rattle.sff_fields.specs.Read.{stepsStart}
 use Rattle.contents.proofs.steps.Laws.{steps-window}
 use Rattle.sff.proofs.lookup.Laws.{contents-clips, contents-steps, contents-good}
 use Rattle.sff.proofs.lookup.read_present.Statement.{statement}

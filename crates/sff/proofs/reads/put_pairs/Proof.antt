@@ -3,12 +3,16 @@ use mathlib.Core.List.{List, _++_}
 use mathlib.Core.Path.{_≡_, sym, _∙_, ap, subst}
 use native.Mathlib.Omega.{arith}
 use lib.ListN.{length, drop}
+use borrow.Author.Needs.{needs}
 use Rattle.reading.proofs.Fill.{Lanes, lanes-start, lanes-next, lanes-end}
 use Rattle.reading.proofs.Loop.{Left, left-start, left-next, left-end}
 use Rattle.reading.specs.Bulk.{recordOf, records}
-use Rattle.sff.specs.Lookup.{found}
-use Rattle.sff.specs.Reads.{readsAt, readNumbers}
-use Rattle.sff.proofs.reads.Laws.{along, along-is, farther, farther-next, farther-end, farther-is, Passes, passes-first, passes-next, numbersLeft, numbers-next, numbers-none, record-wide}
+use Rattle.sff_fields.specs.Answers.{answerOfReadFound}
+use Rattle.sff_fields.proofs.record.Laws.{record-wide, two-written}
+use Rattle.sff.specs.Private.{Passes}
+use Rattle.sff.specs.Reads.{readsAt}
+use Rattle.sff_fields.specs.Parts.{readNumbers}
+use Rattle.sff.proofs.reads.Laws.{along, along-is, farther, farther-next, farther-end, farther-is, passes-first, passes-next, numbersLeft, numbers-next, numbers-none}
 use Rattle.sff.proofs.reads.put_pairs.Statement.{statement}
 use Rattle.sff.proofs.reads.put_pairs.Tie as tie
 use Rattle.sff.proofs.walk.Laws.{next-passed-within, next-passed-start}
@@ -38,35 +42,33 @@ sound-read-requires-2 c κs = let l = c .before .before .loop in
     let g = c .before .before .before .before .before .args in
     (l .inv .4, passes-first (g .d) (g .s .now) (g .n) (l .i) (l .there) (omega arith) (l .inv .6))
 
-mul-put-found : tie.Need-mul-put-found Inv-loop μ-loop
-mul-put-found c = let l = c .before .before .before .before .loop in omega (arith, l .inv .0 .room, l .inv .0 .same, c .before .before .before .before .before .before .before .good .1 .1 .1 .1 .1 .0)
+mul-put-record : tie.Need-mul-put-record Inv-loop μ-loop
+mul-put-record c = let l = c .before .before .before .before .loop in omega (arith, l .inv .0 .room, l .inv .0 .same, c .before .before .before .before .before .before .before .good .1 .1 .1 .1 .1 .0)
 
 read-from-requires : tie.Need-read-from-requires Inv-loop μ-loop
 read-from-requires c κs = let l = c .before .before .before .before .loop in
     let g = c .before .before .before .before .before .before .before .args in
     next-passed-start (g .d) 0 (l .here) (g .s .now) _ (l .inv .3) (c .before .before .sound-read .ensures)
 
-put-found-requires : tie.Need-put-found-requires Inv-loop μ-loop
-put-found-requires c κs = let l = c .before .before .before .before .before .loop in omega (arith, l .inv .0 .room)
+put-record-requires : tie.Need-put-record-requires Inv-loop μ-loop
+put-record-requires c κs = search needs
 
-mul-put-found-2 : tie.Need-mul-put-found-2 Inv-loop μ-loop
-mul-put-found-2 c = let l = c .before .before .before .before .before .before .before .before .before .loop in omega (arith, l .inv .0 .room, l .inv .0 .same, c .before .before .before .before .before .before .before .before .before .before .before .before .good .1 .1 .1 .1 .1 .0)
+mul-put-record-2 : tie.Need-mul-put-record-2 Inv-loop μ-loop
+mul-put-record-2 c = let l = c .before .before .before .before .before .before .before .before .before .loop in omega (arith, l .inv .0 .room, l .inv .0 .same, c .before .before .before .before .before .before .before .before .before .before .before .before .good .1 .1 .1 .1 .1 .0)
 
-mul-put-found-3 : tie.Need-mul-put-found-3 Inv-loop μ-loop
-mul-put-found-3 c = let l = c .before .before .before .before .before .before .before .before .before .loop in omega (arith, l .inv .0 .room, l .inv .0 .same, c .before .before .before .before .before .before .before .before .before .before .before .before .good .1 .1 .1 .1 .1 .0)
+mul-put-record-3 : tie.Need-mul-put-record-3 Inv-loop μ-loop
+mul-put-record-3 c = let l = c .before .before .before .before .before .before .before .before .before .loop in omega (arith, l .inv .0 .room, l .inv .0 .same, c .before .before .before .before .before .before .before .before .before .before .before .before .good .1 .1 .1 .1 .1 .0)
 
-add-put-found : tie.Need-add-put-found Inv-loop μ-loop
-add-put-found c = let l = c .before .before .before .before .before .before .before .before .before .loop in omega (arith, l .inv .0 .room, l .inv .0 .same, c .before .before .before .before .before .before .before .before .before .before .before .before .good .1 .1 .1 .1 .1 .0)
+add-put-record : tie.Need-add-put-record Inv-loop μ-loop
+add-put-record c = let l = c .before .before .before .before .before .before .before .before .before .loop in omega (arith, l .inv .0 .room, l .inv .0 .same, c .before .before .before .before .before .before .before .before .before .before .before .before .good .1 .1 .1 .1 .1 .0)
 
 read-from-requires-2 : tie.Need-read-from-requires-2 Inv-loop μ-loop
 read-from-requires-2 c κs = let l = c .before .before .before .before .before .before .before .before .before .loop in
     let g = c .before .before .before .before .before .before .before .before .before .before .before .before .args in
     next-passed-start (g .d) 0 (l .there) (g .s .now) _ (l .inv .4) (c .before .before .before .before .before .before .sound-read2 .ensures)
 
-put-found-requires-2 : tie.Need-put-found-requires-2 Inv-loop μ-loop
-put-found-requires-2 c κs = let l = c .before .before .before .before .before .before .before .before .before .before .loop in
-    let e = c .before .before .before .before .put-found .kept .0 in
-    omega (arith, l .inv .0 .room, e)
+put-record-requires-2 : tie.Need-put-record-requires-2 Inv-loop μ-loop
+put-record-requires-2 c κs = search needs
 
 add-i : tie.Need-add-i Inv-loop μ-loop
 add-i c = omega arith
@@ -81,11 +83,11 @@ loop-again c = let l = c .before .before .before .before .before .before .before
     let q = c .before .before .before .before .before .before .before .before .before .before .before .before .sound-read2 .ensures in
     let r = c .before .before .before .before .before .before .before .before .before .before .read-from .ensures in
     let t = c .before .before .before .before .before .read-from2 .ensures in
-    let one = found (c .before .before .before .before .before .before .before .before .before .before .read-from .result) in
-    let other = found (c .before .before .before .before .before .read-from2 .result) in
+    let one = answerOfReadFound (c .before .before .before .before .before .before .before .before .before .before .read-from .result) in
+    let other = answerOfReadFound (c .before .before .before .before .before .read-from2 .result) in
     let k : 17 * l .i + 17 ≡ 17 * (l .i + 1) = omega arith in
     let f = lanes-next _ _ (17 * g .n) (17 * l .i) (g .out .now) (l .out) _ (l .inv .0) 17 (omega arith) (recordOf 17 readNumbers one) (recordOf 17 readNumbers other) (record-wide one) (record-wide other) _ _ (numbers-next (g .d) (g .s .now) (l .here) _ o one r) (numbers-next (g .d) (g .s .now) (l .there) _ q other t) in (
-      rw (c .before .before .before .before .put-found2 .ensures, c .before .before .before .before .before .before .before .before .before .put-found .ensures, ← k) f,
+      rw (two-written (l .out) (17 * l .i) (17 * g .n + 17 * l .i) one other _ _ (c .before .before .before .before .before .before .before .before .before .put-record .ensures) (c .before .before .before .before .put-record2 .ensures) (omega (arith, l .inv .0 .room)) (omega (arith, l .inv .0 .room)), ← k) f,
       left-next _ (g .n) (l .i) _ (l .inv .1) _ (farther-next (g .d) (g .s .now) (l .there) _ q),
       omega arith,
       next-passed-within (g .d) 0 (l .here) (g .s .now) _ o,
@@ -113,14 +115,14 @@ put-pairs-spec =
     loop-holds
     sound-read-requires
     sound-read-requires-2
-    mul-put-found
+    mul-put-record
     read-from-requires
-    put-found-requires
-    mul-put-found-2
-    mul-put-found-3
-    add-put-found
+    put-record-requires
+    mul-put-record-2
+    mul-put-record-3
+    add-put-record
     read-from-requires-2
-    put-found-requires-2
+    put-record-requires-2
     add-i
     loop-less
     loop-again

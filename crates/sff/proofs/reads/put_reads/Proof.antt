@@ -6,9 +6,12 @@ use lib.ListN.{length, drop}
 use borrow.Author.Needs.{needs}
 use Rattle.reading.proofs.Fill.{Filling, fill-start, fill-record, fill-end}
 use Rattle.reading.specs.Bulk.{recordOf, records}
-use Rattle.sff.specs.Lookup.{found}
-use Rattle.sff.specs.Reads.{readsAt, readNumbers}
-use Rattle.sff.proofs.reads.Laws.{along, along-is, Passes, passes-first, passes-next, numbersLeft, numbers-next, numbers-none, record-wide}
+use Rattle.sff_fields.specs.Answers.{answerOfReadFound}
+use Rattle.sff_fields.proofs.record.Laws.{record-wide, one-written}
+use Rattle.sff.specs.Private.{Passes}
+use Rattle.sff.specs.Reads.{readsAt}
+use Rattle.sff_fields.specs.Parts.{readNumbers}
+use Rattle.sff.proofs.reads.Laws.{along, along-is, passes-first, passes-next, numbersLeft, numbers-next, numbers-none}
 use Rattle.sff.proofs.reads.put_reads.Statement.{statement}
 use Rattle.sff.proofs.reads.put_reads.Tie as tie
 use Rattle.sff.proofs.walk.Laws.{next-passed-within, next-passed-start}
@@ -38,8 +41,8 @@ read-from-requires c κs = let l = c .before .before .before .loop in
     let g = c .before .before .before .before .before .before .args in
     next-passed-start (g .d) 0 (l .here) (g .s .now) _ (l .inv .3) (c .before .sound-read .ensures)
 
-put-found-requires : tie.Need-put-found-requires Inv-loop μ-loop
-put-found-requires c κs = let l = c .before .before .before .before .loop in omega (arith, l .inv .0 .room)
+put-record-requires : tie.Need-put-record-requires Inv-loop μ-loop
+put-record-requires c κs = search needs
 
 add-p : tie.Need-add-p Inv-loop μ-loop
 add-p c = let l = c .before .before .before .before .before .before .before .before .loop in omega (arith, l .inv .0 .room)
@@ -55,8 +58,8 @@ loop-again c = let l = c .before .before .before .before .before .before .before
     let g = c .before .before .before .before .before .before .before .before .before .before .before .args in
     let o = c .before .before .before .before .before .before .sound-read .ensures in
     let r = c .before .before .before .before .read-from .ensures in
-    let f = fill-record _ (17 * g .n) (l .p) (g .out .now) (l .out) _ (l .inv .0) (recordOf 17 readNumbers (found (c .before .before .before .before .read-from .result))) 17 (record-wide (found (c .before .before .before .before .read-from .result))) (omega arith) _ (numbers-next (g .d) (g .s .now) (l .here) _ o _ r) in
-    (rw (c .before .before .before .put-found .ensures) f, omega arith, omega arith, next-passed-within (g .d) 0 (l .here) (g .s .now) _ o, passes-next (g .d) (g .s .now) (g .n) (l .i) (l .here) (omega arith) (l .inv .4) _ o)
+    let f = fill-record _ (17 * g .n) (l .p) (g .out .now) (l .out) _ (l .inv .0) (recordOf 17 readNumbers (answerOfReadFound (c .before .before .before .before .read-from .result))) 17 (record-wide (answerOfReadFound (c .before .before .before .before .read-from .result))) (omega arith) _ (numbers-next (g .d) (g .s .now) (l .here) _ o _ r) in
+    (rw (one-written (l .out) (l .p) (answerOfReadFound (c .before .before .before .before .read-from .result)) _ (c .before .before .before .put-record .ensures) (omega (arith, l .inv .0 .room))) f, omega arith, omega arith, next-passed-within (g .d) 0 (l .here) (g .s .now) _ o, passes-next (g .d) (g .s .now) (g .n) (l .i) (l .here) (omega arith) (l .inv .4) _ o)
 
 same-length : tie.Need-same-length Inv-loop μ-loop
 same-length c = search needs
@@ -76,7 +79,7 @@ put-reads-spec =
     loop-holds
     sound-read-requires
     read-from-requires
-    put-found-requires
+    put-record-requires
     add-p
     add-i
     loop-less

@@ -5,8 +5,9 @@ use native.Mathlib.Omega.{arith}
 use lib.ListN.{length, drop}
 use borrow.Author.Needs.{needs}
 use Rattle.reading.specs.Bulk.{records}
-use Rattle.sff.specs.Reads.{readsAt, readNumbers}
-use Rattle.sff.specs.Walk.{past}
+use Rattle.sff.specs.Reads.{readsAt}
+use Rattle.sff_fields.specs.Parts.{readNumbers}
+use Rattle.sff.specs.Answers.{outcomeOfWalked}
 use Rattle.sff.proofs.reads.Laws.{passage, first-failed, first-short, then-failed, then-short, over, reads-answered, reads-counted, records-length}
 use Rattle.sff.proofs.reads.reads_from.Statement.{statement}
 use Rattle.sff.proofs.reads.reads_from.Tie as tie
@@ -30,7 +31,7 @@ enum-known-b c = search needs
 
 walk-requires-2 : tie.Need-walk-requires-2
 walk-requires-2 c κs = let g = c .before .before .before .before .before .before .before in
-    let h = sym (c .before .before .before .walk .ensures) ∙ ap past (c .before .b .given .1) in
+    let h = sym (c .before .before .before .walk .ensures) ∙ ap outcomeOfWalked (c .before .b .given .1) in
     (past-within (g .args .d) (g .args .s .now) (g .args .i) 0 _ _ (g .pre .0) h, omega arith)
 
 enum-known-test-2 : tie.Need-enum-known-test-2
@@ -51,8 +52,8 @@ add-walk c = search needs
 walk-requires-3 : tie.Need-walk-requires-3
 walk-requires-3 c κs = let z = c .before .before .before .before .before .before .before .before .before .before .before in
     let g = z .args in
-    let h = sym (c .before .before .before .before .before .before .before .walk .ensures) ∙ ap past (c .before .before .before .before .before .b .given .1) in
-    let k = sym (c .before .before .before .walk2 .ensures) ∙ ap past (c .before .c .given .1) in
+    let h = sym (c .before .before .before .before .before .before .before .walk .ensures) ∙ ap outcomeOfWalked (c .before .before .before .before .before .b .given .1) in
+    let k = sym (c .before .before .before .walk2 .ensures) ∙ ap outcomeOfWalked (c .before .c .given .1) in
     (past-within (g .d) (g .s .now) (g .n / 2) (g .i) _ _ (past-within (g .d) (g .s .now) (g .i) 0 _ _ (z .pre .0) h) k, omega arith)
 
 enum-known-test-3 : tie.Need-enum-known-test-3
@@ -67,9 +68,9 @@ enum-told-4 c = search needs
 put-halves-requires : tie.Need-put-halves-requires
 put-halves-requires c κs = let z = c .before .before .before .before .before .before .before .before .before .before .before .before .before .before .before in
     let g = z .args in
-    let h = sym (c .before .before .before .before .before .before .before .before .before .before .before .walk .ensures) ∙ ap past (c .before .before .before .before .before .before .before .before .before .b .given .1) in
-    let k = sym (c .before .before .before .before .before .before .before .walk2 .ensures) ∙ ap past (c .before .before .before .before .before .c .given .1) in
-    let m = sym (c .before .before .before .walk3 .ensures) ∙ ap past (c .before .enum-told4 .given .1) in
+    let h = sym (c .before .before .before .before .before .before .before .before .before .before .before .walk .ensures) ∙ ap outcomeOfWalked (c .before .before .before .before .before .before .before .before .before .b .given .1) in
+    let k = sym (c .before .before .before .before .before .before .before .walk2 .ensures) ∙ ap outcomeOfWalked (c .before .before .before .before .before .c .given .1) in
+    let m = sym (c .before .before .before .walk3 .ensures) ∙ ap outcomeOfWalked (c .before .enum-told4 .given .1) in
     let w = past-within (g .d) (g .s .now) (g .i) 0 _ _ (z .pre .0) h in
     let p = passage (g .d) (g .n / 2) (g .i) _ (g .s .now) _ k in
     let q = passage (g .d) (g .n - g .n / 2) (g .i + g .n / 2) _ (g .s .now) _ m in
@@ -77,38 +78,38 @@ put-halves-requires c κs = let z = c .before .before .before .before .before .b
 
 returns : tie.Need-returns
 returns c = let g = c .before .before .before .before .before .before .before .args in
-    let e = first-failed (g .d) (g .n) (g .i) (g .s .now) _ _ (sym (c .before .before .before .walk .ensures) ∙ ap past (c .before .test .given .1)) in
+    let e = first-failed (g .d) (g .n) (g .i) (g .s .now) _ _ (sym (c .before .before .before .walk .ensures) ∙ ap outcomeOfWalked (c .before .test .given .1)) in
     (rw (← e), rw (← e))
 
 returns-2 : tie.Need-returns-2
 returns-2 c = let g = c .before .before .before .before .before .before .args in
-    let e = first-short (g .d) (g .n) (g .i) (g .s .now) _ _ (sym (c .before .before .walk .ensures) ∙ ap past (c .enum-told .given .1)) in
+    let e = first-short (g .d) (g .n) (g .i) (g .s .now) _ _ (sym (c .before .before .walk .ensures) ∙ ap outcomeOfWalked (c .enum-told .given .1)) in
     (rw (← e), rw (← e))
 
 returns-3 : tie.Need-returns-3
 returns-3 c = let g = c .before .before .before .before .before .before .before .before .before .before .before .args in
-    let h = sym (c .before .before .before .before .before .before .before .walk .ensures) ∙ ap past (c .before .before .before .before .before .b .given .1) in
-    let e = then-failed (g .d) (g .n) (g .i) (g .s .now) _ h _ _ (past-parts (g .d) (g .s .now) (g .n / 2) (g .n) (g .i) _ (omega arith) _ (sym (c .before .before .before .walk2 .ensures) ∙ ap past (c .before .test2 .given .1))) in
+    let h = sym (c .before .before .before .before .before .before .before .walk .ensures) ∙ ap outcomeOfWalked (c .before .before .before .before .before .b .given .1) in
+    let e = then-failed (g .d) (g .n) (g .i) (g .s .now) _ h _ _ (past-parts (g .d) (g .s .now) (g .n / 2) (g .n) (g .i) _ (omega arith) _ (sym (c .before .before .before .walk2 .ensures) ∙ ap outcomeOfWalked (c .before .test2 .given .1))) in
     (rw (← e), rw (← e))
 
 returns-4 : tie.Need-returns-4
 returns-4 c = let g = c .before .before .before .before .before .before .before .before .before .before .args in
-    let h = sym (c .before .before .before .before .before .before .walk .ensures) ∙ ap past (c .before .before .before .before .b .given .1) in
-    let e = then-short (g .d) (g .n) (g .i) (g .s .now) _ h _ _ (past-parts (g .d) (g .s .now) (g .n / 2) (g .n) (g .i) _ (omega arith) _ (sym (c .before .before .walk2 .ensures) ∙ ap past (c .enum-told2 .given .1))) in
+    let h = sym (c .before .before .before .before .before .before .walk .ensures) ∙ ap outcomeOfWalked (c .before .before .before .before .b .given .1) in
+    let e = then-short (g .d) (g .n) (g .i) (g .s .now) _ h _ _ (past-parts (g .d) (g .s .now) (g .n / 2) (g .n) (g .i) _ (omega arith) _ (sym (c .before .before .walk2 .ensures) ∙ ap outcomeOfWalked (c .enum-told2 .given .1))) in
     (rw (← e), rw (← e))
 
 returns-5 : tie.Need-returns-5
 returns-5 c = let g = c .before .before .before .before .before .before .before .before .before .before .before .before .before .before .before .args in
-    let h = sym (c .before .before .before .before .before .before .before .before .before .before .before .walk .ensures) ∙ ap past (c .before .before .before .before .before .before .before .before .before .b .given .1) in
-    let k = past-parts (g .d) (g .s .now) (g .n / 2) (g .n) (g .i) _ (omega arith) _ (sym (c .before .before .before .before .before .before .before .walk2 .ensures) ∙ ap past (c .before .before .before .before .before .c .given .1)) in
-    let e = then-failed (g .d) (g .n) (g .i) (g .s .now) _ h _ _ (k ∙ (sym (c .before .before .before .walk3 .ensures) ∙ ap past (c .before .test3 .given .1))) in
+    let h = sym (c .before .before .before .before .before .before .before .before .before .before .before .walk .ensures) ∙ ap outcomeOfWalked (c .before .before .before .before .before .before .before .before .before .b .given .1) in
+    let k = past-parts (g .d) (g .s .now) (g .n / 2) (g .n) (g .i) _ (omega arith) _ (sym (c .before .before .before .before .before .before .before .walk2 .ensures) ∙ ap outcomeOfWalked (c .before .before .before .before .before .c .given .1)) in
+    let e = then-failed (g .d) (g .n) (g .i) (g .s .now) _ h _ _ (k ∙ (sym (c .before .before .before .walk3 .ensures) ∙ ap outcomeOfWalked (c .before .test3 .given .1))) in
     (rw (← e), rw (← e))
 
 returns-6 : tie.Need-returns-6
 returns-6 c = let g = c .before .before .before .before .before .before .before .before .before .before .before .before .before .before .args in
-    let h = sym (c .before .before .before .before .before .before .before .before .before .before .walk .ensures) ∙ ap past (c .before .before .before .before .before .before .before .before .b .given .1) in
-    let k = past-parts (g .d) (g .s .now) (g .n / 2) (g .n) (g .i) _ (omega arith) _ (sym (c .before .before .before .before .before .before .walk2 .ensures) ∙ ap past (c .before .before .before .before .c .given .1)) in
-    let e = then-short (g .d) (g .n) (g .i) (g .s .now) _ h _ _ (k ∙ (sym (c .before .before .walk3 .ensures) ∙ ap past (c .enum-told3 .given .1))) in
+    let h = sym (c .before .before .before .before .before .before .before .before .before .before .walk .ensures) ∙ ap outcomeOfWalked (c .before .before .before .before .before .before .before .before .b .given .1) in
+    let k = past-parts (g .d) (g .s .now) (g .n / 2) (g .n) (g .i) _ (omega arith) _ (sym (c .before .before .before .before .before .before .walk2 .ensures) ∙ ap outcomeOfWalked (c .before .before .before .before .c .given .1)) in
+    let e = then-short (g .d) (g .n) (g .i) (g .s .now) _ h _ _ (k ∙ (sym (c .before .before .walk3 .ensures) ∙ ap outcomeOfWalked (c .enum-told3 .given .1))) in
     (rw (← e), rw (← e))
 
 same-length : tie.Need-same-length
@@ -117,9 +118,9 @@ same-length c = search needs
 returns-7 : tie.Need-returns-7
 returns-7 c = let z = c .before .before .before .before .before .before .before .before .before .before .before .before .before .before .before .before .before .before in
     let g = z .args in
-    let h = sym (c .before .before .before .before .before .before .before .before .before .before .before .before .before .before .walk .ensures) ∙ ap past (c .before .before .before .before .before .before .before .before .before .before .before .before .b .given .1) in
-    let j = past-parts (g .d) (g .s .now) (g .n / 2) (g .n) (g .i) _ (omega arith) _ (sym (c .before .before .before .before .before .before .before .before .before .before .walk2 .ensures) ∙ ap past (c .before .before .before .before .before .before .before .before .c .given .1)) in
-    let k = j ∙ (sym (c .before .before .before .before .before .before .walk3 .ensures) ∙ ap past (c .before .before .before .before .enum-told4 .given .1)) in
+    let h = sym (c .before .before .before .before .before .before .before .before .before .before .before .before .before .before .walk .ensures) ∙ ap outcomeOfWalked (c .before .before .before .before .before .before .before .before .before .before .before .before .b .given .1) in
+    let j = past-parts (g .d) (g .s .now) (g .n / 2) (g .n) (g .i) _ (omega arith) _ (sym (c .before .before .before .before .before .before .before .before .before .before .walk2 .ensures) ∙ ap outcomeOfWalked (c .before .before .before .before .before .before .before .before .c .given .1)) in
+    let k = j ∙ (sym (c .before .before .before .before .before .before .walk3 .ensures) ∙ ap outcomeOfWalked (c .before .before .before .before .enum-told4 .given .1)) in
     let w = over (g .d) (g .n) (g .i) (g .s .now) _ h _ k (z .pre .0) in
     let e = reads-answered (g .d) (g .n) (g .i) (g .s .now) _ h _ k (z .pre .0) in
     let m = reads-counted (g .d) (g .n) (g .i) (g .s .now) _ h _ k (z .pre .0) in

@@ -6,7 +6,8 @@ use lib.ListN.{length}
 use borrow.Author.Needs.{needs}
 use Rattle.reading.specs.Check.{run}
 use Rattle.reading.proofs.Loop.{Left, left-start, left-next, left-stop, left-end}
-use Rattle.sff.specs.Walk.{walkPast, stepped}
+use Rattle.sff.specs.Walk.{walkPast}
+use Rattle.sff.specs.Answers.{outcomeOfStep}
 use Rattle.sff.proofs.walk.Laws.{past-failed, past-short, past-next, past-end, next-passed-within}
 use Rattle.sff.proofs.walk.walk.Statement.{statement}
 use Rattle.sff.proofs.walk.walk.Tie as tie
@@ -39,7 +40,7 @@ returns c =
     let y = c .before .before .before in
     let l = y .before .before in
     let g = l .before .before .args in
-    let o = sym (y .next-read .ensures (g .i + l .loop .j)) ∙ ap (stepped (g .i + l .loop .j)) (c .before .test .given .1) in
+    let o = sym (y .next-read .ensures (g .i + l .loop .j)) ∙ ap (outcomeOfStep (g .i + l .loop .j)) (c .before .test .given .1) in
     left-stop _ _ _ _ (l .loop .inv .2) (omega arith) _ (past-failed (g .d) (g .i + l .loop .j) (l .loop .here) (g .s .now) _ _ o)
 
 enum-known-start : tie.Need-enum-known-start Inv-loop μ-loop
@@ -56,7 +57,7 @@ returns-2 c =
     let y = c .before .before .before in
     let l = y .before .before in
     let g = l .before .before .args in
-    let o = sym (y .next-read .ensures (g .i + l .loop .j)) ∙ ap (stepped (g .i + l .loop .j)) (c .before .start .given .1) in
+    let o = sym (y .next-read .ensures (g .i + l .loop .j)) ∙ ap (outcomeOfStep (g .i + l .loop .j)) (c .before .start .given .1) in
     left-stop _ _ _ _ (l .loop .inv .2) (omega arith) _ (past-short (g .d) (g .i + l .loop .j) (l .loop .here) (g .s .now) _ _ o)
 
 enum-known-start-2 : tie.Need-enum-known-start-2 Inv-loop μ-loop
@@ -67,7 +68,7 @@ returns-3 c =
     let y = c .before .before .before in
     let l = y .before .before in
     let g = l .before .before .args in
-    let o = sym (y .next-read .ensures (g .i + l .loop .j)) ∙ ap (stepped (g .i + l .loop .j)) (c .before .start2 .given .1) in
+    let o = sym (y .next-read .ensures (g .i + l .loop .j)) ∙ ap (outcomeOfStep (g .i + l .loop .j)) (c .before .start2 .given .1) in
     left-stop _ _ _ _ (l .loop .inv .2) (omega arith) _ (past-short (g .d) (g .i + l .loop .j) (l .loop .here) (g .s .now) _ _ o)
 
 enum-known-behind : tie.Need-enum-known-behind Inv-loop μ-loop
@@ -85,7 +86,7 @@ loop-again c =
     let l = y .before .before in
     let g = l .before .before .args in
     let k = g .i + l .loop .j in
-    let o = sym (y .next-read .ensures k) ∙ ap (stepped k) (c .before .behind .given .1) in
+    let o = sym (y .next-read .ensures k) ∙ ap (outcomeOfStep k) (c .before .behind .given .1) in
     (omega arith, next-passed-within (g .d) k (l .loop .here) (g .s .now) _ o, left-next _ _ _ _ (l .loop .inv .2) _ (past-next (g .d) k (l .loop .here) (g .s .now) _ o (g .i + (l .loop .j + 1)) (omega arith)))
 
 returns-4 : tie.Need-returns-4 Inv-loop μ-loop

@@ -1,7 +1,7 @@
 use mathlib.Core.Path.{sym, _∙_, ap}
 use native.Mathlib.Omega.{arith}
 use borrow.Author.Needs.{needs}
-use Rattle.sff.specs.Walk.{past}
+use Rattle.sff.specs.Answers.{outcomeOfWalked}
 use Rattle.sff.proofs.walk.Laws.{before-none, before-past, before-found}
 use Rattle.sff.proofs.walk.walk_to.Statement.{statement}
 use Rattle.sff.proofs.walk.walk_to.Tie as tie
@@ -34,19 +34,19 @@ returns-3 : tie.Need-returns-3
 returns-3 c =
     let w = c .before .before .before in
     let i = w .before .before in
-    before-found _ _ _ (i .before .before .if1 .left) (i .if2 .left) _ (sym (ap past (c .before .test .given .1)) ∙ w .walk .ensures)
+    before-found _ _ _ (i .before .before .if1 .left) (i .if2 .left) _ (sym (ap outcomeOfWalked (c .before .test .given .1)) ∙ w .walk .ensures)
 
 returns-4 : tie.Need-returns-4
 returns-4 c =
     let w = c .before .before in
     let i = w .before .before in
-    before-found _ _ _ (i .before .before .if1 .left) (i .if2 .left) _ (sym (ap past (c .enum-told .given .1)) ∙ w .walk .ensures)
+    before-found _ _ _ (i .before .before .if1 .left) (i .if2 .left) _ (sym (ap outcomeOfWalked (c .enum-told .given .1)) ∙ w .walk .ensures)
 
 returns-5 : tie.Need-returns-5
 returns-5 c =
     let w = c .before .before .before in
     let i = w .before .before in
-    before-found _ _ _ (i .before .before .if1 .left) (i .if2 .left) _ (sym (ap past (c .before .b .given .1)) ∙ w .walk .ensures)
+    before-found _ _ _ (i .before .before .if1 .left) (i .if2 .left) _ (sym (ap outcomeOfWalked (c .before .b .given .1)) ∙ w .walk .ensures)
 
 pub walk-to-spec : {M : Type 1} → statement M
 walk-to-spec =

@@ -1,7 +1,7 @@
 use Prim.Native.Nat.{_+_}
 use native.Mathlib.Omega.{arith}
 use lib.ListN.{length}
-use Rattle.sff.proofs.padding.Laws.{padded-bounds}
+use Rattle.sff_fields.proofs.padding.Laws.{padded-bounds}
 use Rattle.sff_write.proofs.read.Laws.{size-is}
 use Rattle.sff_write.proofs.header.Laws.{header-put}
 use borrow.Author.Needs.{needs}

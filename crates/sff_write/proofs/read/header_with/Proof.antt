@@ -1,6 +1,6 @@
 use Prim.Native.Nat.{_+_}
 use native.Mathlib.Omega.{arith}
-use Rattle.sff.proofs.padding.Laws.{padded-bounds}
+use Rattle.sff_fields.proofs.padding.Laws.{padded-bounds}
 use Rattle.sff_write.proofs.read.Laws.{size-is, header-is}
 use borrow.Author.Needs.{needs}
 use Rattle.sff_write.proofs.read.header_with.Statement.{statement}

@@ -1,7 +1,7 @@
 use Prim.Native.Nat.{_+_, _*_}
 use native.Mathlib.Omega.{arith}
 use lib.ListN.{length}
-use Rattle.sff_write.specs.Read.{given}
+use Rattle.sff_write.specs.Read.{givenRead}
 use Rattle.sff_write.proofs.read.Laws.{size-is, length-read, read-put}
 use borrow.Author.Needs.{needs}
 use Rattle.sff_write.proofs.read.put_read.Statement.{statement}
@@ -16,7 +16,7 @@ padding-behind-requires c κs = search needs
 put-header-requires : tie.Need-put-header-requires
 put-header-requires c κs =
     let g = c .before .before .before .before .before .before .before .before .args in
-    let r = given (g .name .now) (g .flows .now) (g .steps .now) (g .letters .now) (g .qualities .now) (g .clips) in
+    let r = givenRead (g .name .now) (g .flows .now) (g .steps .now) (g .letters .now) (g .qualities .now) (g .clips) in
     let k = length-read (g .d) r (c .before .before .before .before .before .before .before .before .pre .0 .3) (c .before .before .before .before .before .before .before .before .pre .0 .4) in
     let y = size-is (16 + length (g .name .now)) _ (c .before .padding-behind .ensures .0) in
     omega (arith, c .before .before .before .before .before .before .before .before .pre .1)
@@ -51,7 +51,7 @@ padding-behind-requires-2 c κs = search needs
 put-bases-requires : tie.Need-put-bases-requires
 put-bases-requires c κs =
     let g = c .before .before .before .before .before .before .before .before .before .before .before .before .before .before .before .before .before .args in
-    let r = given (g .name .now) (g .flows .now) (g .steps .now) (g .letters .now) (g .qualities .now) (g .clips) in
+    let r = givenRead (g .name .now) (g .flows .now) (g .steps .now) (g .letters .now) (g .qualities .now) (g .clips) in
     let k = length-read (g .d) r (c .before .before .before .before .before .before .before .before .before .before .before .before .before .before .before .before .before .pre .0 .3) (c .before .before .before .before .before .before .before .before .before .before .before .before .before .before .before .before .before .pre .0 .4) in
     let y = size-is (16 + length (g .name .now)) _ (c .before .before .before .before .before .before .before .before .before .before .padding-behind .ensures .0) in
     let z = size-is (2 * length (g .flows .now) + 3 * length (g .letters .now)) _ (c .before .padding-behind2 .ensures .0) in
@@ -63,7 +63,7 @@ same-length c = search needs
 returns : tie.Need-returns
 returns c =
     let g = c .before .before .before .before .before .before .before .before .before .before .before .before .before .before .before .before .before .before .before .before .args in
-    let r = given (g .name .now) (g .flows .now) (g .steps .now) (g .letters .now) (g .qualities .now) (g .clips) in
+    let r = givenRead (g .name .now) (g .flows .now) (g .steps .now) (g .letters .now) (g .qualities .now) (g .clips) in
     read-put _ _ _ (g .p) _ _ (g .d) r (c .before .before .before .before .before .before .before .before .before .before .before .before .before .padding-behind .ensures .0) (c .before .before .before .before .padding-behind2 .ensures .0) (c .before .before .before .before .before .before .before .before .before .before .before .put-header .ensures) (c .before .before .before .before .before .before .before .put-words .ensures) (c .before .before .put-bases .ensures) (c .before .before .before .before .before .before .before .before .before .before .before .before .before .before .before .before .before .before .before .before .pre .1)
 
 pub put-read-spec : {M : Type 1} → statement M

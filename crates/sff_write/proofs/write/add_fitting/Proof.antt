@@ -3,8 +3,8 @@ use native.Mathlib.Omega.{arith}
 use lib.ListN.{length}
 use Prim.Native.Nat.{_+_}
 use Rattle.reading.specs.Check.{answer}
-use Rattle.sff.proofs.padding.Laws.{padded-bounds}
-use Rattle.sff_write.specs.Read.{given}
+use Rattle.sff_fields.proofs.padding.Laws.{padded-bounds}
+use Rattle.sff_write.specs.Read.{givenRead}
 use Rattle.sff_write.specs.Write.{addingFit}
 use Rattle.sff_write.proofs.write.Laws.{told-refused, fit-answer, fit-size, fit-length, fit-contents, fit-room, fit-written}
 use borrow.Author.Needs.{needs}
@@ -44,7 +44,7 @@ add-size-2 c = search needs
 returns : tie.Need-returns
 returns c =
     let g = c .before .before .before .before .before .before .before .before .before .before .before .before .args in
-    let r = given (g .name .now) (g .flows .now) (g .steps .now) (g .letters .now) (g .qualities .now) (g .clips) in
+    let r = givenRead (g .name .now) (g .flows .now) (g .steps .now) (g .letters .now) (g .qualities .now) (g .clips) in
     let e = c .before .before .before .before .before .header-with .ensures in
     let q = fit-answer (g .w .flows) (g .w .at) r (c .before .before .before .before .before .before .before .before .before .before .before .before .pre .1) _ e (c .before .before .before .before .contents-hold .result) (c .before .before .before .before .contents-hold .ensures []) in
     let a = answer (addingFit (g .w) r (length (g .out .now))) [] in
@@ -57,7 +57,7 @@ sub-if3 c = search needs
 returns-2 : tie.Need-returns-2
 returns-2 c =
     let g = c .before .before .before .before .before .before .before .before .before .before .before .before .before .args in
-    let r = given (g .name .now) (g .flows .now) (g .steps .now) (g .letters .now) (g .qualities .now) (g .clips) in
+    let r = givenRead (g .name .now) (g .flows .now) (g .steps .now) (g .letters .now) (g .qualities .now) (g .clips) in
     let e = c .before .before .before .before .before .before .header-with .ensures in
     let q = fit-answer (g .w .flows) (g .w .at) r (c .before .before .before .before .before .before .before .before .before .before .before .before .before .pre .1) _ e (c .before .before .before .before .before .contents-hold .result) (c .before .before .before .before .before .contents-hold .ensures []) in
     let a = answer (addingFit (g .w) r (length (g .out .now))) [] in
@@ -67,14 +67,14 @@ returns-2 c =
 put-read-requires : tie.Need-put-read-requires
 put-read-requires c κs =
     let g = c .before .before .before .before .before .before .before .before .before .before .before .before .before .before .args in
-    let r = given (g .name .now) (g .flows .now) (g .steps .now) (g .letters .now) (g .qualities .now) (g .clips) in
+    let r = givenRead (g .name .now) (g .flows .now) (g .steps .now) (g .letters .now) (g .qualities .now) (g .clips) in
     let e = c .before .before .before .before .before .before .before .header-with .ensures in
     let q = fit-answer (g .w .flows) (g .w .at) r (c .before .before .before .before .before .before .before .before .before .before .before .before .before .before .pre .1) _ e (c .before .before .before .before .before .before .contents-hold .result) (c .before .before .before .before .before .before .contents-hold .ensures []) in
     let a = answer (addingFit (g .w) r (length (g .out .now))) [] in
     let s = fit-size (g .w .flows) (g .w .at) r (c .before .before .before .before .before .before .before .before .before .before .before .before .before .before .pre .1) _ e _ (c .before .before .before .padding-behind .ensures .0) in
     let k = c .before .before .before .before .before .before .before .before .before .before .before .before .before .before .pre .1 in
     let n = padded-bounds (16 + length (g .name .now)) in
-    ((omega arith, omega arith, k .bases, k .steps-agree, k .qualities-agree), fit-length (g .w .flows) (g .w .at) r k _ e _ _ s (omega arith))
+    ((omega arith, omega arith, k .bases-fit, k .steps-agree, k .qualities-agree), fit-length (g .w .flows) (g .w .at) r k _ e _ _ s (omega arith))
 
 add-t26 : tie.Need-add-t26
 add-t26 c = search needs
@@ -88,7 +88,7 @@ same-length c = search needs
 returns-3 : tie.Need-returns-3
 returns-3 c =
     let g = c .before .before .before .before .before .before .before .before .before .before .before .before .before .before .before .before .before .before .args in
-    let r = given (g .name .now) (g .flows .now) (g .steps .now) (g .letters .now) (g .qualities .now) (g .clips) in
+    let r = givenRead (g .name .now) (g .flows .now) (g .steps .now) (g .letters .now) (g .qualities .now) (g .clips) in
     let e = c .before .before .before .before .before .before .before .before .before .before .before .header-with .ensures in
     let q = fit-answer (g .w .flows) (g .w .at) r (c .before .before .before .before .before .before .before .before .before .before .before .before .before .before .before .before .before .before .pre .1) _ e (c .before .before .before .before .before .before .before .before .before .before .contents-hold .result) (c .before .before .before .before .before .before .before .before .before .before .contents-hold .ensures []) in
     let a = answer (addingFit (g .w) r (length (g .out .now))) [] in
@@ -98,7 +98,7 @@ returns-3 c =
 returns-4 : tie.Need-returns-4
 returns-4 c =
     let g = c .before .before .before .before .before .before .before .before .before .args in
-    let r = given (g .name .now) (g .flows .now) (g .steps .now) (g .letters .now) (g .qualities .now) (g .clips) in
+    let r = givenRead (g .name .now) (g .flows .now) (g .steps .now) (g .letters .now) (g .qualities .now) (g .clips) in
     let e = c .before .before .header-with .ensures in
     let q = fit-answer (g .w .flows) (g .w .at) r (c .before .before .before .before .before .before .before .before .before .pre .1) _ e (c .before .contents-hold .result) (c .before .contents-hold .ensures []) in
     let a = answer (addingFit (g .w) r (length (g .out .now))) [] in

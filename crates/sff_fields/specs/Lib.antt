@@ -1,0 +1,6 @@
+pub mod Padding
+pub mod Header
+pub mod Read
+pub mod Clips
+pub mod Parts
+pub mod Answers
