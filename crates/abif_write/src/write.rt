@@ -9,7 +9,7 @@ ghost use mathlib.Core.List.{[]};
 ghost use lib.ListN.{length};
 ghost use Rattle.reading.specs.Check.{answer, mapAnswer};
 ghost use Rattle.reading.specs.Lent.{filled};
-ghost use Rattle.writing.specs.Answer.{written};
+ghost use Rattle.writing.specs.Answers.{answerOfWritten};
 ghost use Rattle.abif_write.specs.Item.{lentRecords, itemAt, sameLengths};
 ghost use Rattle.abif_write.specs.Private.{Accepted};
 ghost use Rattle.abif_write.specs.File.{fileCheck};
@@ -53,7 +53,7 @@ fn write_accepted(
     out: &mut [u8],
 ) -> Written
     requires { ⌜ Accepted (lentRecords names numbers types counts starts lengths) (now buffer) ⌝ }
-    ensures { λ r. ⌜ written r ≡ mapAnswer length
+    ensures { λ r. ⌜ answerOfWritten r ≡ mapAnswer length
         (answer (fileCheck (itemAt (lentRecords (names .entry) (numbers .entry) (types .entry) (counts .entry) (starts .entry) (lengths .entry)))
         (now (buffer .entry)) (length (now (names .entry))) (length (now (out .entry)))) []) ⌝ }
     ensures { λ _. ⌜ now (out .exit) ≡ filled
@@ -98,7 +98,7 @@ pub fn write(
     buffer: &[u8],
     out: &mut [u8],
 ) -> Written
-    ensures { λ r. ⌜ written r ≡ mapAnswer length
+    ensures { λ r. ⌜ answerOfWritten r ≡ mapAnswer length
         (answer (writing (lentRecords (names .entry) (numbers .entry) (types .entry) (counts .entry) (starts .entry) (lengths .entry)) (now (buffer .entry))
         (length (now (out .entry)))) []) ⌝ }
     ensures { λ _. ⌜ now (out .exit) ≡ filled

@@ -1,9 +1,9 @@
 -- The struct that each answer of an SFF call is for a C program.
 use Prim.Native.Nat.{ℕ, _+_}
 use Rattle.reading.specs.Check.{Answer, ok, refused}
-use Rattle.sff.specs.declared.position.FlowPosition.{FlowPosition}
-use Rattle.sff.specs.declared.header.Header.{Header}
-use Rattle.sff.specs.declared.lookup.Read.{Read}
+use Rattle.sff_fields.specs.declared.position.FlowPosition.{FlowPosition}
+use Rattle.sff_fields.specs.declared.header.Header.{Header}
+use Rattle.sff_fields.specs.declared.parts.Read.{Read}
 use Rattle.capi.specs.declared.answers.SffHeader.{SffHeader}
 use Rattle.capi.specs.declared.answers.SffRead.{SffRead}
 use Rattle.capi.specs.declared.answers.Flow.{Flow}

@@ -19,13 +19,15 @@ ghost use mathlib.Core.Path.{_≡_};
 ghost use lib.ListN.{length};
 ghost use Rattle.reading.specs.Number.{bits};
 ghost use Rattle.reading.specs.Check.{answer, mapAnswer};
-ghost use Rattle.abif.specs.Directory.{opening, opened};
+ghost use Rattle.abif.specs.Directory.{opening};
+ghost use Rattle.abif.specs.Answers.{answerOfOpened};
 ghost use Rattle.abif.specs.Judge.{judging};
 ghost use Rattle.abif.specs.Lookup.{lookingUp};
-ghost use Rattle.abif.specs.Element.{elementReading, element as elementAnswer};
-ghost use Rattle.abif.specs.Text.{textReading, text as textAnswer};
+ghost use Rattle.abif_elements.specs.Element.{elementReading};
+ghost use Rattle.abif_elements.specs.Answers.{answerOfElement, answerOfText};
+ghost use Rattle.abif_elements.specs.Text.{textReading};
 ghost use Rattle.reading.specs.Lent.{filled};
-ghost use Rattle.abif.specs.Numbers.{numbersReading};
+ghost use Rattle.abif_elements.specs.Numbers.{numbersReading};
 ghost use Rattle.capi.specs.Answers.{asVerdict, asItem, asPart, asListed};
 ghost use Rattle.capi.specs.Abif.{asOpened, asElement, numberElement, fieldsElement, singleElement, doubleElement, refusedElement};
 
@@ -38,7 +40,7 @@ pub extern "C" fn jt_abif_judge(s: &[u8]) -> Verdict
 }
 
 fn as_opened(o: directory::Opened) -> Opened
-    ensures { λ r. ⌜ r ≡ asOpened (opened o) ⌝ }
+    ensures { λ r. ⌜ r ≡ asOpened (answerOfOpened o) ⌝ }
 {
     match o {
         directory::Opened::At { place, count } => Opened {
@@ -164,7 +166,7 @@ fn refused_element(refusal: u8) -> Element
 }
 
 pub(crate) fn as_element(e: element::Element) -> Element
-    ensures { λ r. ⌜ r ≡ asElement (elementAnswer e) ⌝ }
+    ensures { λ r. ⌜ r ≡ asElement (answerOfElement e) ⌝ }
 {
     match e {
         element::Element::Whole(n) => number_element(1, n),
@@ -210,7 +212,7 @@ pub extern "C" fn jt_abif_element(s: &[u8], name: u32, number: i32, index: u64) 
 }
 
 pub(crate) fn as_part(t: text::Text) -> Part
-    ensures { λ r. ⌜ r ≡ asPart (textAnswer t) ⌝ }
+    ensures { λ r. ⌜ r ≡ asPart (answerOfText t) ⌝ }
 {
     match t {
         text::Text::At { start, length } => Part {

@@ -21,17 +21,19 @@ ghost use lib.ListN.{length};
 ghost use Rattle.reading.specs.Check.{answer, mapAnswer};
 ghost use Rattle.reading.specs.Lent.{filled};
 ghost use Rattle.reading.specs.Bulk.{records};
-ghost use Rattle.gtc.specs.Judge.{judging, verdict};
+ghost use Rattle.gtc.specs.Judge.{judging};
+ghost use Rattle.gtc.specs.Answers.{answerOfVerdict};
 ghost use Rattle.gtc.specs.Lookup.{lookingUp};
-ghost use Rattle.gtc.specs.Snp.{snpReading, snpRead};
-ghost use Rattle.gtc.specs.Snps.{snpNumbers, snpsReading};
-ghost use Rattle.gtc.specs.Transformation.{transformationReading, transformationRead};
-ghost use Rattle.gtc.specs.Normalise.{normalised};
+ghost use Rattle.gtc_records.specs.Answers.{answerOfSnpRead, answerOfTransformationRead};
+ghost use Rattle.gtc_records.specs.Snp.{snpReading};
+ghost use Rattle.gtc_records.specs.Snps.{snpsReading, snpNumbers};
+ghost use Rattle.gtc_records.specs.Transformation.{transformationReading};
+ghost use Rattle.gtc_records.specs.Normalise.{normalised};
 ghost use Rattle.capi.specs.Answers.{asItem, asListed};
 ghost use Rattle.capi.specs.Gtc.{asJudged, snpStruct, refusedSnp, asSnp, noTransformation, asTransformation};
 
 fn as_judged(v: judge::Verdict) -> Verdict
-    ensures { λ r. ⌜ r ≡ asJudged (verdict v) ⌝ }
+    ensures { λ r. ⌜ r ≡ asJudged (answerOfVerdict v) ⌝ }
 {
     match v {
         judge::Verdict::Whole { extent, unjudged } => Verdict {
@@ -99,7 +101,7 @@ fn refused_snp(refusal: u8) -> Snp
 }
 
 fn as_snp(r: snp::SnpRead) -> Snp
-    ensures { λ t. ⌜ t ≡ asSnp (snpRead r) ⌝ }
+    ensures { λ t. ⌜ t ≡ asSnp (answerOfSnpRead r) ⌝ }
 {
     match r {
         snp::SnpRead::At(d) => snp_struct(d),
@@ -146,7 +148,7 @@ fn no_transformation() -> Transformation
 }
 
 fn as_transformation(r: transformation::TransformationRead) -> TransformationAnswer
-    ensures { λ t. ⌜ t ≡ asTransformation (transformationRead r) ⌝ }
+    ensures { λ t. ⌜ t ≡ asTransformation (answerOfTransformationRead r) ⌝ }
 {
     match r {
         transformation::TransformationRead::At { start, value } => TransformationAnswer {

@@ -8,8 +8,9 @@ ghost use mathlib.Core.Path.{_≡_};
 ghost use mathlib.Core.List.{[]};
 ghost use lib.ListN.{length};
 ghost use Rattle.reading.specs.Check.{answer, mapAnswer};
-ghost use Rattle.sff_write.specs.Read.{given};
-ghost use Rattle.sff_write.specs.Write.{behind, advanced, writtenAt, beginning, adding, finishing};
+ghost use Rattle.sff_write.specs.Read.{givenRead};
+ghost use Rattle.sff_write.specs.Write.{behind, writtenAt, beginning, adding, finishing};
+ghost use Rattle.sff_write.specs.Answers.{answerOfAdvanced};
 ghost use Rattle.capi.specs.Answers.{asWritten};
 ghost use Rattle.capi.specs.SffWrite.{stateOf, writerStruct, asWriter, asAdded, clipsOf};
 
@@ -37,7 +38,7 @@ fn writer_struct(w: write::Writer) -> SffWriter
 }
 
 fn as_writer(a: write::Advanced) -> SffWriter
-    ensures { λ r. ⌜ r ≡ asWriter (advanced a) ⌝ }
+    ensures { λ r. ⌜ r ≡ asWriter (answerOfAdvanced a) ⌝ }
 {
     match a {
         write::Advanced::To(w) => writer_struct(w),
@@ -67,7 +68,7 @@ pub extern "C" fn jt_sff_begin(
 
 // A refused read leaves the state as it was, so that the next call may go on.
 fn as_added(w: SffWriter, a: write::Advanced) -> SffWriter
-    ensures { λ r. ⌜ r ≡ asAdded w (advanced a) ⌝ }
+    ensures { λ r. ⌜ r ≡ asAdded w (answerOfAdvanced a) ⌝ }
 {
     match a {
         write::Advanced::To(v) => writer_struct(v),
@@ -96,8 +97,8 @@ pub extern "C" fn jt_sff_add(
     adapter_right: u64,
     out: &mut [u8],
 ) -> SffWriter
-    ensures { λ r. ⌜ r ≡ asAdded w (mapAnswer behind (answer (adding (stateOf w) (given (now (name .entry)) (now (flows .entry)) (now (steps .entry)) (now (letters .entry)) (now (qualities .entry)) (clipsOf «quality_left» «quality_right» «adapter_left» «adapter_right»)) (length (now (out .entry)))) [])) ⌝ }
-    ensures { λ _. ⌜ now (out .exit) ≡ writtenAt (w .at) (answer (adding (stateOf w) (given (now (name .entry)) (now (flows .entry)) (now (steps .entry)) (now (letters .entry)) (now (qualities .entry)) (clipsOf «quality_left» «quality_right» «adapter_left» «adapter_right»)) (length (now (out .entry)))) []) (now (out .entry)) ⌝ }
+    ensures { λ r. ⌜ r ≡ asAdded w (mapAnswer behind (answer (adding (stateOf w) (givenRead (now (name .entry)) (now (flows .entry)) (now (steps .entry)) (now (letters .entry)) (now (qualities .entry)) (clipsOf «quality_left» «quality_right» «adapter_left» «adapter_right»)) (length (now (out .entry)))) [])) ⌝ }
+    ensures { λ _. ⌜ now (out .exit) ≡ writtenAt (w .at) (answer (adding (stateOf w) (givenRead (now (name .entry)) (now (flows .entry)) (now (steps .entry)) (now (letters .entry)) (now (qualities .entry)) (clipsOf «quality_left» «quality_right» «adapter_left» «adapter_right»)) (length (now (out .entry)))) []) (now (out .entry)) ⌝ }
 {
     let clips = Clips {
         quality_left,

@@ -13,8 +13,10 @@ use Rattle.reading.proofs.Refused.{Refuses}
 use Rattle.abif.specs.Judge.{judging}
 use Rattle.abif.proofs.Reach as Reach
 use Rattle.abif.proofs.Refused as Refused
+use Rattle.abif_elements.proofs.Reach as Elements
+use Rattle.abif_elements.proofs.Refused as ElementsRefused
 use Rattle.abif.proofs.lookup.Laws.{found-checked}
-use Rattle.abif.proofs.text.Laws.{text-fits}
+use Rattle.abif_elements.proofs.text.Laws.{text-fits}
 use Rattle.abif_file.proofs.Reach.{entry-reading-under, listing-under, opened-under}
 use Rattle.abif_file.proofs.Refused.{entry-reading-refuses, listing-refuses, opened-refuses}
 use Rattle.abif_file.proofs.list.Numbered.{entries-of}
@@ -41,15 +43,15 @@ fits (opened p n c) s v e = file-fits c s v (later-passed p n (fileCall c .check
 
 file-under : (c : FileCall) (s : List ℕ) (x : ℕ) → answer judging s ≡ ok x → reach (fileCall c .checks) s ≤ x
 file-under (lookup a b) s x w = Reach.lookup-under a b s x w
-file-under (element a b i) s x w = Reach.element-under a b i s x w
-file-under (text a b) s x w = Reach.text-under a b s x w
+file-under (element a b i) s x w = Elements.element-under a b i s x w
+file-under (text a b) s x w = Elements.text-under a b s x w
 file-under (list out) s x w = listing-under s x w (length out)
 
 under : (c : Call) (s : List ℕ) (x : ℕ) → answer judging s ≡ ok x → reach (call c .checks) s ≤ x
 under judge s x w = omega (arith, Reach.extent s x w)
 under openFile s x w = Reach.opening-under s x w
 under (entry i) s x w = entry-reading-under s x w i
-under (wholeNumbers a b i out) s x w = Reach.numbers-under a b i (length out) s x w
+under (wholeNumbers a b i out) s x w = Elements.numbers-under a b i (length out) s x w
 under (of c) s x w = file-under c s x w
 under (opened p n c) s x w = opened-under s x w p n (fileCall c .checks) (file-under c s x w)
 
@@ -62,15 +64,15 @@ ten n h = (up-to-ten n h, refl)
 
 file-refuses : (c : FileCall) (s : List ℕ) → Refuses AtNone (fileCall c .checks) s
 file-refuses (lookup a b) s = Refused.lookup-refuses AtNone ten s a b
-file-refuses (element a b i) s = Refused.element-refuses AtNone ten s (refl, refl) (refl, refl) a b i
-file-refuses (text a b) s = Refused.text-refuses AtNone ten s (refl, refl) a b
+file-refuses (element a b i) s = ElementsRefused.element-refuses AtNone ten s (refl, refl) (refl, refl) a b i
+file-refuses (text a b) s = ElementsRefused.text-refuses AtNone ten s (refl, refl) a b
 file-refuses (list out) s = listing-refuses AtNone ten s (refl, refl) (length out)
 
 refuses : (c : Call) (s : List ℕ) → Refuses (Asked abif c) (call c .checks) s
 refuses judge s = anywhere abif s (Refused.judging-refuses Anywhere (λ n h e. up-to-ten n h) s)
 refuses openFile s = at-none abif openFile s (Refused.opening-refuses AtNone ten s)
 refuses (entry i) s = at-none abif (entry i) s (entry-reading-refuses AtNone ten s i)
-refuses (wholeNumbers a b i out) s = at-none abif (wholeNumbers a b i out) s (Refused.numbers-refuses AtNone ten s (refl, refl) a b i (length out) (λ _. (refl, refl)))
+refuses (wholeNumbers a b i out) s = at-none abif (wholeNumbers a b i out) s (ElementsRefused.numbers-refuses AtNone ten s (refl, refl) a b i (length out) (λ _. (refl, refl)))
 refuses (of c) s = at-none abif (of c) s (file-refuses c s)
 refuses (opened p n c) s = at-none abif (opened p n c) s (opened-refuses AtNone ten s p n (fileCall c .checks) (file-refuses c s))
 

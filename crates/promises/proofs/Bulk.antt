@@ -11,16 +11,16 @@ use lib.Seq.{drop-cons}
 use Rattle.reading.specs.Check.{Check, ok, answer}
 use Rattle.reading.specs.Bulk.{recordOf, records, OfItem, answered}
 use Rattle.reading.proofs.bulk.Laws.{answersFrom}
-use Rattle.abif.specs.Element.{whole, elementReading}
-use Rattle.abif.proofs.numbers.Numbered.{numbers-of, no-room}
+use Rattle.abif_elements.specs.Element.{whole, elementReading}
+use Rattle.abif_elements.proofs.numbers.Numbered.{numbers-of, no-room}
 use Rattle.sff.specs.Lookup.{readReading}
-use Rattle.sff.specs.Reads.{readNumbers}
-use Rattle.sff.proofs.reads.Laws.{record-wide}
+use Rattle.sff_fields.specs.Parts.{readNumbers}
+use Rattle.sff_fields.proofs.record.Laws.{record-wide}
 use Rattle.sff.proofs.reads.Numbered.{many-fit, many-items, many-own, many-all, many-full}
-use Rattle.gtc.specs.Snp.{snpReading}
-use Rattle.gtc.specs.Snps.{snpNumbers}
-use Rattle.gtc.proofs.snps.Laws as Snps
-use Rattle.gtc.proofs.snps.Numbered as Gtc
+use Rattle.gtc_records.specs.Snp.{snpReading}
+use Rattle.gtc_records.specs.Snps.{snpNumbers}
+use Rattle.gtc_records.proofs.snps.Laws as Snps
+use Rattle.gtc_records.proofs.snps.Numbered as Gtc
 use Rattle.promises.specs.Bulk.{singles, ByTheRule, wholeNumber, wholeNumbers, reads, snps, bulkOf, BulkRule}
 
 -- records of what is answered one by one

@@ -13,14 +13,16 @@ use Rattle.reading.specs.Number.{be}
 use Rattle.reading.specs.Check.{ok, answer, holds}
 use Rattle.reading.proofs.Width.{be-in-part}
 use Rattle.reading.proofs.Passed.{bind-ok, must-ok}
-use Rattle.sff.specs.declared.header.Header.{Header}
+use Rattle.sff_fields.specs.declared.header.Header.{Header}
 use Rattle.sff.specs.Header.{header}
-use Rattle.sff.specs.Read.{readEnd, dataStart, stepsStart, lettersStart, framing}
-use Rattle.sff.specs.Walk.{front, Passage, walk}
-use Rattle.sff.specs.Clips.{clipsCheck, firstBase, lastBase, insertFrom, insert}
+use Rattle.sff.specs.Read.{framing}
+use Rattle.sff_fields.specs.Read.{dataStart, readEnd, stepsStart, lettersStart}
+use Rattle.sff.specs.Walk.{firstBoundary, Passage, walk}
+use Rattle.sff_fields.specs.Clips.{clipsCheck, firstBase, lastBase, insertFrom, insert}
 use Rattle.contents.specs.Steps.{stepsCheck}
-use Rattle.sff.specs.Lookup.{readOf, readFrom, readReading}
-use Rattle.sff.proofs.padding.Laws.{padded-bounds}
+use Rattle.sff.specs.Lookup.{readFrom, readReading}
+use Rattle.sff_fields.specs.Parts.{readOf}
+use Rattle.sff_fields.proofs.padding.Laws.{padded-bounds}
 use Rattle.contents.proofs.steps.Laws.{steps-window}
 use Rattle.sff.proofs.lookup.Laws.{last-below}
 use Rattle.sff.proofs.NoIndex.{framing-passes, read-from-passes, clips-any, steps-any, walk-passes, walk-start, judging-passes, number-passes, number-none, number-past}
@@ -29,7 +31,8 @@ use Rattle.writing.proofs.Over.{take-put}
 use Rattle.writing.proofs.Words.{word-back}
 use Rattle.sff_write.specs.declared.write.Writer.{Writer}
 use Rattle.sff_write.specs.Header.{headerSize, headerBytes}
-use Rattle.sff_write.specs.Read.{Given, headerWith, headerFor, readBytes, Fitting}
+use Rattle.sff_write.specs.Read.{GivenRead, headerWith, headerFor, readBytes}
+use Rattle.sff_write.specs.Private.{Fitting}
 use Rattle.sff_write.specs.Write.{Piece, beginning, adding}
 use Rattle.sff_write.proofs.write.Laws.{begin-passed, add-passed, finish-passed}
 use Rattle.sff_write.proofs.Back.{header-length, headerBack, header-back, flow-letters-back, key-back, read-end, present-back, name-back, flows-back, steps-back, letters-back, qualities-back, among-letters}
@@ -48,7 +51,7 @@ insert-same s letters p m n h k f = go (leb m n) refl
     go false e = rw e
 
 -- a read behind u that was accepted as number k
-module _ (u t : List ℕ) (f k : ℕ) (r : Given) (fit : Fitting f r) (clips : answer (clipsCheck (headerFor (length u) r)) [] ≡ ok tt) (steps : answer (stepsCheck f (r .steps) 0 (length (r .steps))) [] ≡ ok tt) (small : (i : ℕ) → getD (r .flows) i 0 < 65536) where
+module _ (u t : List ℕ) (f k : ℕ) (r : GivenRead) (fit : Fitting f r) (clips : answer (clipsCheck (headerFor (length u) r)) [] ≡ ok tt) (steps : answer (stepsCheck f (r .steps) 0 (length (r .steps))) [] ≡ ok tt) (small : (i : ℕ) → getD (r .flows) i 0 < 65536) where
   abbrev file : List ℕ
   file = u ++ (readBytes (headerFor (length u) r) r ++ t)
 
@@ -98,7 +101,7 @@ module _ (u t : List ℕ) (f k : ℕ) (r : Given) (fit : Fitting f r) (clips : a
         insert = insert-same file (r .letters) (lettersStart f d) (firstBase d) (lastBase d) (omega arith) (omega arith) (among-letters u t f r fit);
       }
 
-module _ (n : ℕ) (letters key : List ℕ) (g : ℕ → Given) where
+module _ (n : ℕ) (letters key : List ℕ) (g : ℕ → GivenRead) where
   -- the file with its first m reads
   upTo : ℕ → List ℕ
   upTo zero = headerBytes n letters key
@@ -205,7 +208,7 @@ module _ (n : ℕ) (letters key : List ℕ) (g : ℕ → Given) where
         ap (answer (framing (length letters) (length (upTo k)))) (v .1) ∙ framing-passes _ _ _ _ (present-back (upTo k) (v .0) (length letters) (g k) fit) ∙ ap ok (read-end (upTo k) (v .0) (length letters) (g k) fit)
 
     -- the walk over the first k reads
-    walked : (k : ℕ) → k ≤ n → (v : Passage) × (answer (walk fields-back k 0 (front fields-back)) (upTo n) ≡ ok v) × (v .behind .position ≡ length (upTo k))
+    walked : (k : ℕ) → k ≤ n → (v : Passage) × (answer (walk fields-back k 0 (firstBoundary fields-back)) (upTo n) ≡ ok v) × (v .behind .position ≡ length (upTo k))
     unfolding upTo
     walked zero h =
         let w = walk-start fields-back (upTo n) refl in
@@ -216,7 +219,7 @@ module _ (n : ℕ) (letters key : List ℕ) (g : ℕ → Given) where
         let f = subst (λ (j : ℕ). answer (framing (length letters) j) (upTo n) ≡ ok (length (upTo (suc k)))) (sym (v .2)) (framing-is k h) in
         let w = walk-passes fields-back (upTo n) refl k (length (upTo (suc k))) (v .0) (v .1) (rw (v .2) p) f in
         let e : k + 1 ≡ suc k = omega arith in
-        (w .0, subst (λ (j : ℕ). answer (walk fields-back j 0 (front fields-back)) (upTo n) ≡ ok (w .0)) e (w .1), w .2)
+        (w .0, subst (λ (j : ℕ). answer (walk fields-back j 0 (firstBoundary fields-back)) (upTo n) ≡ ok (w .0)) e (w .1), w .2)
 
     each : (k : ℕ) → k < n → ReadIs (upTo n) (k + 1) (g k)
     each k h =

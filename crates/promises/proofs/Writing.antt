@@ -12,14 +12,14 @@ use Rattle.promises.specs.Demand1.{WritingEnds, writes, refuses-writing}
 use Rattle.promises.proofs.Ends.{AtNone}
 
 refuses : (c : Writing) → Refuses AtNone (call c .checks) []
-refuses (abif a b c d e f g out) = writing-refuses AtNone [] (refl, refl) (refl, refl) (refl, refl) (refl, refl) (refl, refl) (refl, refl) a b c d e f g (length out)
+refuses (abif r buffer out) = writing-refuses AtNone [] (refl, refl) (refl, refl) (refl, refl) (refl, refl) (refl, refl) (refl, refl) (r .names) (r .numbers) (r .types) (r .counts) (r .starts) (r .lengths) buffer (length out)
 refuses (begin n letters key out) = beginning-refuses AtNone [] (refl, refl) (refl, refl) n letters key (length out)
 refuses (add w r out) = adding-refuses AtNone [] (refl, refl) (refl, refl) (refl, refl) w r (length out)
 refuses (finish w) = finishing-refuses AtNone [] (refl, refl) w
 
 -- a refusal leaves the output as it was
 unchanged : (c : Writing) (n : ℕ) → call c .after (refused n 0) ≡ call c .lent
-unchanged (abif a b c d e f g out) n = refl
+unchanged (abif r buffer out) n = refl
 unchanged (begin m letters key out) n = refl
 unchanged (add w r out) n = refl
 unchanged (finish w) n = refl

@@ -8,10 +8,11 @@ use Rattle.reading.specs.Check.{ok, refused, answer}
 use Rattle.abif_file.specs.declared.entry.RawEntry.{RawEntry}
 use Rattle.abif.specs.Directory.{opening}
 use Rattle.abif.specs.Judge.{judging}
-use Rattle.abif.specs.Lookup.{lookingUp, dataSpan}
-use Rattle.abif.specs.Element.{elementReading}
-use Rattle.abif.specs.Numbers.{numbersReading}
-use Rattle.abif.specs.Text.{textReading}
+use Rattle.abif.specs.Lookup.{lookingUp}
+use Rattle.reading.specs.Item.{dataSpan}
+use Rattle.abif_elements.specs.Element.{elementReading}
+use Rattle.abif_elements.specs.Numbers.{numbersReading}
+use Rattle.abif_elements.specs.Text.{textReading}
 use Rattle.abif_file.specs.Entry.{entryReading}
 use Rattle.abif_file.specs.List.{listing}
 use Rattle.abif_file.specs.Opened.{ofOpened}
@@ -22,10 +23,10 @@ pub data FileCall : Type 0 where
   -- abif::lookup::lookup, abif::lookup::data_part, jt_abif_lookup
   -- abif_file::opened::lookup, abif_file::opened::data_part, abif_file::file::lookup, abif_file::file::data_part, jt_abif_lookup_opened
   lookup : (name number : ℕ) → FileCall
-  -- abif::element::read_element, jt_abif_element
+  -- abif_elements::element::read_element, jt_abif_element
   -- abif_file::opened::read_element, abif_file::file::read_element, jt_abif_element_opened
   element : (name number index : ℕ) → FileCall
-  -- abif::text::read_text, abif::text::text_part, jt_abif_text
+  -- abif_elements::text::read_text, abif_elements::text::text_part, jt_abif_text
   -- abif_file::opened::read_text, abif_file::opened::text_part, abif_file::file::read_text, abif_file::file::text_part, jt_abif_text_opened
   text : (name number : ℕ) → FileCall
   -- abif_file::list::list, jt_abif_list, abif_file::file::list, jt_abif_list_opened
@@ -39,7 +40,7 @@ pub data Call : Type 0 where
   openFile : Call
   -- abif_file::entry::entry
   entry : (index : ℕ) → Call
-  -- abif::numbers::whole_numbers, jt_abif_whole_numbers
+  -- abif_elements::numbers::whole_numbers, jt_abif_whole_numbers
   -- the lent output goes in
   wholeNumbers : (name number first : ℕ) → List ℤ → Call
   -- one of those above

@@ -8,14 +8,15 @@ use lib.IntN.{ℤ}
 use lib.ListN.{length}
 use Rattle.reading.specs.Check.{Check, Answer, ok, refused, answer}
 use Rattle.reading.specs.Bulk.{recordOf, records, OfItem}
-use Rattle.abif.specs.Element.{Value, whole, single, double, date, time, bool, thumb, elementReading}
-use Rattle.abif.specs.Numbers.{numbersReading}
-use Rattle.sff.specs.declared.lookup.Read.{Read}
+use Rattle.abif_elements.specs.Element.{Value, whole, single, double, date, time, bool, thumb, elementReading}
+use Rattle.abif_elements.specs.Numbers.{numbersReading}
+use Rattle.sff_fields.specs.declared.parts.Read.{Read}
 use Rattle.sff.specs.Lookup.{readReading}
-use Rattle.sff.specs.Reads.{readsReading, readNumbers}
-use Rattle.gtc.specs.declared.snp.Snp.{Snp}
-use Rattle.gtc.specs.Snp.{snpReading}
-use Rattle.gtc.specs.Snps.{snpsReading, snpNumbers}
+use Rattle.sff.specs.Reads.{readsReading}
+use Rattle.sff_fields.specs.Parts.{readNumbers}
+use Rattle.gtc_records.specs.declared.snp.Snp.{Snp}
+use Rattle.gtc_records.specs.Snp.{snpReading}
+use Rattle.gtc_records.specs.Snps.{snpsReading, snpNumbers}
 
 -- a bulk call beside the single call
 pub record Bulk : Type 1 where

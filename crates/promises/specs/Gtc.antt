@@ -4,10 +4,11 @@ use mathlib.Core.List.{List}
 use lib.ListN.{length}
 use Rattle.reading.specs.Bulk.{records}
 use Rattle.gtc.specs.Judge.{judging}
-use Rattle.gtc.specs.Lookup.{lookingUp, dataSpan}
-use Rattle.gtc.specs.Snp.{snpReading}
-use Rattle.gtc.specs.Snps.{snpsReading, snpNumbers}
-use Rattle.gtc.specs.Transformation.{transformationReading, transformationSpan}
+use Rattle.gtc.specs.Lookup.{lookingUp}
+use Rattle.reading.specs.Item.{dataSpan}
+use Rattle.gtc_records.specs.Snp.{snpReading}
+use Rattle.gtc_records.specs.Snps.{snpsReading, snpNumbers}
+use Rattle.gtc_records.specs.Transformation.{transformationReading, transformationSpan}
 use Rattle.promises.specs.Format.{ReadingCall, plain, handing, filling, Format}
 
 pub data Call : Type 0 where
@@ -15,12 +16,12 @@ pub data Call : Type 0 where
   judge : Call
   -- gtc::lookup::lookup, gtc::lookup::data_part, jt_gtc_lookup
   lookup : (id : ℕ) → Call
-  -- gtc::snp::read_snp, jt_gtc_snp
+  -- gtc_records::snp::read_snp, jt_gtc_snp
   snp : (index : ℕ) → Call
-  -- gtc::snps::read_snps, jt_gtc_snps
+  -- gtc_records::snps::read_snps, jt_gtc_snps
   -- the lent output goes in
   snps : (first : ℕ) → List ℕ → Call
-  -- gtc::transformation::read_transformation, gtc::transformation::transformation_part, jt_gtc_transformation
+  -- gtc_records::transformation::read_transformation, gtc_records::transformation::transformation_part, jt_gtc_transformation
   transformation : (number : ℕ) → Call
 
 -- Lookup hands back the data, and a transformation its 52 bytes, so that the bits of its floats are seen too; the bulk call writes of each SNP what the

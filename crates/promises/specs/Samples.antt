@@ -5,12 +5,12 @@ use mathlib.Core.List.{List, [], _∷_, _++_}
 use lib.IntN.{negsuc}
 use lib.ListN.{take, replicate}
 use Rattle.reading.specs.Check.{Answer, ok, refused, mapAnswer, answer}
-use Rattle.abif.specs.Element.{whole}
+use Rattle.abif_elements.specs.Element.{whole}
 use Rattle.promises.specs.Format.{Format}
-use Rattle.sff.specs.declared.lookup.Read.{Read}
-use Rattle.sff.specs.declared.lookup.ReadPart.the-variants.{Insert}
+use Rattle.sff_fields.specs.declared.parts.Read.{Read}
+use Rattle.sff_fields.specs.declared.parts.ReadPart.the-variants.{Insert}
 use Rattle.promises.specs.Abif.{lookup, element, judge, of, abif}
-use Rattle.gtc.specs.Genotype.{letters}
+use Rattle.gtc_records.specs.Genotype.{letters}
 use Rattle.promises.specs.Sff as Sff
 use Rattle.promises.specs.Gtc as Gtc
 use Rattle.promises.specs.Gtc.{gtc}
@@ -63,7 +63,7 @@ threeBases =
     ∷ 0x41 ∷ 0x42 ∷ 0x43 ∷ 0x44 ∷ 0x45 ∷ 0x00 ∷ 0x00 ∷ 0x00 ∷ 0x00 ∷ 0x64 ∷ 0x00 ∷ 0x64 ∷ 0x00 ∷ 0x64 ∷ 0x00 ∷ 0x00
     ∷ 0x01 ∷ 0x01 ∷ 0x01 ∷ 0x54 ∷ 0x41 ∷ 0x43 ∷ 0x28 ∷ 0x28 ∷ 0x28 ∷ 0x00 ∷ 0x00 ∷ 0x00 ∷ 0x00 ∷ 0x00 ∷ 0x00 ∷ 0x00 ∷ []
 
--- what is told of it, where it starts at 40
+-- what is answered of it, where it starts at 40
 abbrev pub readAt40 : Read
 readAt40 =
     record {
@@ -109,17 +109,17 @@ pub record Sample : Type 1 where
   pub file : List ℕ
   pub call : format .Call
   -- what the paper tells of an answer, and what that is here
-  pub Told : Type 0
-  pub tells : format .call call .Value → Told
-  pub answers : Answer Told
+  pub Said : Type 0
+  pub says : format .call call .Value → Said
+  pub answers : Answer Said
 
--- a sample that tells the answer itself
+-- a sample that says the answer itself
 abbrev pub row : (f : Format) → List ℕ → (c : f .Call) → Answer (f .call c .Value) → Sample
-row f s c r = record { format = f; file = s; call = c; Told = f .call c .Value; tells = λ v. v; answers = r }
+row f s c r = record { format = f; file = s; call = c; Said = f .call c .Value; says = λ v. v; answers = r }
 
--- one that tells the letters of a SNP's genotype
+-- one that says the letters of a SNP's genotype
 abbrev pub genotypeRow : List ℕ → ℕ → Answer (List ℕ) → Sample
-genotypeRow s i r = record { format = gtc; file = s; call = Gtc.snp i; Told = List ℕ; tells = λ v. letters (v .genotype); answers = r }
+genotypeRow s i r = record { format = gtc; file = s; call = Gtc.snp i; Said = List ℕ; says = λ v. letters (v .genotype); answers = r }
 
 abbrev pub ABCD : ℕ
 ABCD = 0x41424344
@@ -135,7 +135,7 @@ table =
     -- W3
     ∷ row abif (take 155 twoShorts) judge (refused 1 0)
     -- W4
-    ∷ row abif twoShorts (of (lookup ABCD 1)) (ok (record { start = 148; size = 4; «element_type» = 4; count = 2 }))
+    ∷ row abif twoShorts (of (lookup ABCD 1)) (ok (record { code = 4; count = 2; start = 148; size = 4 }))
     ∷ row abif twoShorts (of (element ABCD 1 2)) (ok (whole (negsuc 1)))
     ∷ row abif twoShorts (of (element ABCD 1 3)) (refused 12 0)
     -- W5
@@ -163,4 +163,4 @@ table =
 -- every row holds
 abbrev pub AllHold : List Sample → Type 0
 AllHold [] = Unit {0}
-AllHold (r ∷ rs) = (mapAnswer (r .tells) (answer (r .format .call (r .call) .checks) (r .file)) ≡ r .answers) × AllHold rs
+AllHold (r ∷ rs) = (mapAnswer (r .says) (answer (r .format .call (r .call) .checks) (r .file)) ≡ r .answers) × AllHold rs

@@ -3,12 +3,13 @@ use Prim.Native.Nat.{ℕ}
 use mathlib.Core.List.{List}
 use lib.ListN.{length}
 use Rattle.reading.specs.Bulk.{records}
-use Rattle.sff.specs.declared.lookup.ReadPart.{ReadPart}
-use Rattle.sff.specs.declared.position.BasePosition.{BasePosition}
+use Rattle.sff_fields.specs.declared.parts.ReadPart.{ReadPart}
+use Rattle.sff_fields.specs.declared.position.BasePosition.{BasePosition}
 use Rattle.sff.specs.Header.{header}
 use Rattle.sff.specs.Judge.{judging}
-use Rattle.sff.specs.Lookup.{readReading, spanOf}
-use Rattle.sff.specs.Reads.{readsReading, readNumbers}
+use Rattle.sff.specs.Lookup.{readReading}
+use Rattle.sff_fields.specs.Parts.{spanOf, readNumbers}
+use Rattle.sff.specs.Reads.{readsReading}
 use Rattle.sff.specs.Flow.{flowReading}
 use Rattle.promises.specs.Format.{ReadingCall, plain, handing, filling, Format}
 

@@ -1,21 +1,21 @@
 -- The calls of the writers, with all that they are lent. They are lent no file, so each is run on no bytes.
 use Prim.Native.Nat.{ℕ}
 use mathlib.Core.List.{List, []}
-use lib.IntN.{ℤ}
 use lib.ListN.{length}
 use Rattle.reading.specs.Check.{Check, Answer}
 use Rattle.reading.specs.Lent.{filled}
 use Rattle.abif_write.specs.Write as Abif
+use Rattle.abif_write.specs.Item.{Records}
 use Rattle.sff_write.specs.declared.write.Writer.{Writer}
-use Rattle.sff_write.specs.Read.{Given}
+use Rattle.sff_write.specs.Read.{GivenRead}
 use Rattle.sff_write.specs.Write.{Piece, beginning, adding, finishing, writtenAt}
 
 pub data Writing : Type 0 where
   -- an ABIF file of the items that the records name, with their data
-  abif : (names : List ℕ) (numbers types : List ℤ) (counts starts lengths items out : List ℕ) → Writing
+  abif : Records → (buffer out : List ℕ) → Writing
   -- an SFF header, a read behind what is written, and the end of the file
   begin : (reads : ℕ) (letters key out : List ℕ) → Writing
-  add : (w : Writer) → Given → (out : List ℕ) → Writing
+  add : (w : Writer) → GivenRead → (out : List ℕ) → Writing
   finish : Writer → Writing
 
 -- A writer's call with all that it is lent.
@@ -40,7 +40,7 @@ abbrev pub lengthOnly : Check ℕ → WritingCall
 lengthOnly t = record { Value = ℕ; checks = t; lent = []; after = λ _. [] }
 
 abbrev pub call : Writing → WritingCall
-call (abif names numbers types counts starts lengths items out) = wholeFile (Abif.writing names numbers types counts starts lengths items (length out)) out
+call (abif r buffer out) = wholeFile (Abif.writing r buffer (length out)) out
 call (begin reads letters key out) = piece (beginning reads letters key (length out)) 0 out
 call (add w r out) = piece (adding w r (length out)) (w .at) out
 call (finish w) = lengthOnly (finishing w)

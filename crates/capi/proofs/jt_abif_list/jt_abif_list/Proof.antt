@@ -38,10 +38,10 @@ use denote.Signature.{plain}
 use Rattle.reading.specs.Check.{Answer, answer, mapAnswer}
 use Rattle.reading.specs.Lent.{filled}
 use Rattle.abif_file.specs.declared.entry.RawEntry.{RawEntry}
-use Rattle.abif.specs.declared.numbers.Copied.{Copied}
-use Rattle.abif.specs.Numbers.{copied}
-use Rattle.abif.proofs.numbers.Copied as S
-use Rattle.abif.proofs.numbers.Copied.Laws as S′
+use Rattle.reading.specs.declared.bulk.Copied.{Copied}
+use Rattle.reading.specs.Answers.{answerOfCopied}
+use Rattle.reading.proofs.bulk.Copied as S
+use Rattle.reading.proofs.bulk.Copied.Laws as S′
 use Rattle.abif_file.specs.List.{listing}
 use Rattle.abif_file.proofs.list.list as step
 use Rattle.abif_file.proofs.list.list.Symbol as step-def
@@ -98,7 +98,7 @@ module _ {M : Type 1} (𝓤 : URA M) (H : Heap 𝓤) (A : Atoms 𝓤) (W : Given
 
   -- what the listing says of its answer and of the last list
   abbrev Lists : Copied → List RawEntry → Type 0
-  Lists r zs = (copied r ≡ mapAnswer length Told) × (zs ≡ filled Told (x .now))
+  Lists r zs = (answerOfCopied r ≡ mapAnswer length Told) × (zs ≡ filled Told (x .now))
 
   -- the listing is passed just what the function is passed
   abbrev to : Step 𝓤 H A mem run .Ghost
@@ -143,7 +143,7 @@ module _ {M : Type 1} (𝓤 : URA M) (H : Heap 𝓤) (A : Atoms 𝓤) (W : Given
         nothing ! $ use1 W (raw (As 𝓤 H A mem run .pre (to-as 𝓤 H A W mem run r u))) (goes-as 𝓤 H A W mem run r u is) $
         calls-at ! (fmOf 𝓤 H (W .laws) 𝓣) (As 𝓤 H A mem run) known-as (to-as 𝓤 H A W mem run r u) (and-then ! (load ! (from ! (stop !)) (look ! 9 refl)) (no-more !)) (λ u₂.
         use1 W (later (some (λ (z : Listed). (‵ ftrue ⊛ ‵ (T.the-row .own z (u₂ ∷ []))) ⊛ raw (ensured 𝓤 H A made.ended (made.clauses 𝓤 H A mem run) tt (r, tt) tt z)))) (id⊢ 𝓤 _) $ await ! tt $ pick ! (λ z.
-        split ! $ move ! (1 ∷ []) $ use1 W (raw (fact 𝓤 (z ≡ asListed (copied r)))) (said-as 𝓤 H A W mem run r u z) $ heard ! (z ≡ asListed (copied r)) (λ e₂. split ! $ drop ! $
+        split ! $ move ! (1 ∷ []) $ use1 W (raw (fact 𝓤 (z ≡ asListed (answerOfCopied r)))) (said-as 𝓤 H A W mem run r u z) $ heard ! (z ≡ asListed (answerOfCopied r)) (λ e₂. split ! $ drop ! $
         -- [the result; the tokens; the last list; true; what s owns; the locals]
         peeks ! T.the-row (Is T.the-row) (shows 𝓤 H A T.the-row) z (u₂ ∷ []) (λ is₂.
         land ! (from ! (stop !)) (init ! 15 refl (LL.lawful T.the-type T′.the-laws 𝓤 H A W .typed z _ is₂ .0)) $
