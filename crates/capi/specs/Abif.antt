@@ -16,11 +16,11 @@ asOpened (refused n e) = record { refusal = n; place = 0; count = 0 }
 
 -- an element of this kind that is a number
 abbrev pub numberElement : ℕ → ℤ → Element
-numberElement kind whole =
+numberElement kind number =
     record {
       refusal = 0;
       kind = kind;
-      whole = whole;
+      whole = number;
       single = zero32;
       «single_bits» = 0;
       real = zero64;
@@ -50,12 +50,12 @@ fieldsElement kind a b c d =
 
 -- a 32-bit float, with its bits
 abbrev pub singleElement : Float → ℕ → Element
-singleElement single bits =
+singleElement float bits =
     record {
       refusal = 0;
       kind = 2;
       whole = pos 0;
-      single = single;
+      single = float;
       «single_bits» = bits;
       real = zero64;
       «real_bits» = 0;
@@ -67,14 +67,14 @@ singleElement single bits =
 
 -- a 64-bit float, with its bits
 abbrev pub doubleElement : Float → ℕ → Element
-doubleElement real bits =
+doubleElement float bits =
     record {
       refusal = 0;
       kind = 3;
       whole = pos 0;
       single = zero32;
       «single_bits» = 0;
-      real = real;
+      real = float;
       «real_bits» = bits;
       a = pos 0;
       b = pos 0;

@@ -2,7 +2,7 @@ use mathlib.Core.Path.{_∙_, ap}
 use mir.Facts.{toZ-ofZ}
 use borrow.Author.Needs.{needs}
 use Rattle.reading.specs.Number.{bits}
-use Rattle.capi.specs.Abif.{asItem}
+use Rattle.capi.specs.Answers.{asItem}
 use Rattle.capi.proofs.jt_abif.jt_abif_lookup.Statement.{statement}
 use Rattle.capi.proofs.jt_abif.jt_abif_lookup.Tie as tie
 

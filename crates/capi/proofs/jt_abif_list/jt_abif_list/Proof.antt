@@ -169,4 +169,4 @@ jt-abif-list-spec 𝓤 H 𝓜 𝓖 𝓡 =
     (tables 𝓤 H 𝓜 𝓡 code.env .C) (tables 𝓤 H 𝓜 𝓡 code.env .Λ) #capi·jt-abif-list·jt-abif-list code.function (code.unfolded 𝓤 H 𝓜 𝓡)
     (list-meets 𝓤 H (𝓖 .A) (givenOf 𝓤 H 𝓜 𝓖) (𝓜 .mem) (𝓡 .run) (tablesOf 𝓤 H 𝓜 (tables 𝓤 H 𝓜 𝓡 code.env))
     (cited 𝓤 H (Step 𝓤 H (𝓖 .A) (𝓜 .mem) (𝓡 .run)) 𝓜 𝓡 code.env #abif-file·list·list step-def.routine code.calls-abif-file·list·list (step-thm.met 𝓤 H 𝓜 𝓖 𝓡))
-    (cited 𝓤 H (As 𝓤 H (𝓖 .A) (𝓜 .mem) (𝓡 .run)) 𝓜 𝓡 code.env #capi·answers·as-listed made-def.routine code.calls-capi·jt-abif·as-listed (made-thm.met 𝓤 H 𝓜 𝓖 𝓡)))
+    (cited 𝓤 H (As 𝓤 H (𝓖 .A) (𝓜 .mem) (𝓡 .run)) 𝓜 𝓡 code.env #capi·answers·as-listed made-def.routine code.calls-capi·answers·as-listed (made-thm.met 𝓤 H 𝓜 𝓖 𝓡)))

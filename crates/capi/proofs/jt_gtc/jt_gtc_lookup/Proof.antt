@@ -1,6 +1,6 @@
 use mathlib.Core.Path.{_∙_, ap}
 use borrow.Author.Needs.{needs}
-use Rattle.capi.specs.Gtc.{asItem}
+use Rattle.capi.specs.Answers.{asItem}
 use Rattle.capi.proofs.jt_gtc.jt_gtc_lookup.Statement.{statement}
 use Rattle.capi.proofs.jt_gtc.jt_gtc_lookup.Tie as tie
 
