@@ -55,5 +55,5 @@ judgeTable table count = do
 
 unfoldable pub judging : Check Extent
 judging = do
-  t ← table
-  judgeTable (t .upTo) (t .count)
+  contents ← table
+  judgeTable (contents .upTo) (contents .count)

@@ -30,5 +30,5 @@ lookupIn table count id = do
 
 unfoldable pub lookingUp : ℕ → Check ItemData
 lookingUp id = do
-  t ← table
-  lookupIn (t .upTo) (t .count) id
+  contents ← table
+  lookupIn (contents .upTo) (contents .count) id

@@ -69,5 +69,5 @@ table = do
 
 unfoldable pub entryCount : Check ℕ
 entryCount = do
-  t ← table
-  done (t .count)
+  contents ← table
+  done (contents .count)

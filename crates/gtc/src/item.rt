@@ -4,6 +4,7 @@ use crate::entry::EntryFound;
 use crate::entry::entry_with;
 use crate::entry::offset_field;
 use crate::table::Counted;
+use crate::table::NEGATIVE;
 use crate::table::table_end;
 use reading::check::Ended;
 use reading::check::Field;
@@ -73,6 +74,7 @@ pub(crate) enum ItemRead {
     Short(usize, usize),
 }
 
+// What Table 3 says of an id.
 pub(crate) fn listing_of(id: u16) -> Listing
     ensures { λ r. ⌜ r ≡ listingOf id ⌝ }
 {
@@ -112,6 +114,7 @@ pub(crate) fn listing_of(id: u16) -> Listing
     }
 }
 
+// The id is in Table 3.
 pub(crate) fn is_listed(id: u16) -> bool
     ensures { λ r. ⌜ r ≡ isListed (listingOf id) ⌝ }
 {
@@ -159,6 +162,7 @@ fn scanner_rest(s: &[u8], green: usize) -> Ended
     }
 }
 
+// The end of the scanner data at place p.
 fn scanner_end(s: &[u8], p: usize) -> Ended
     requires { ⌜ p < 0x8000000000000000 ⌝ }
     ensures { λ r. ⌜ outcomeOfEnded r ≡ run (scannerEnd p) (now (s .entry)) ⌝ }
@@ -171,13 +175,14 @@ fn scanner_end(s: &[u8], p: usize) -> Ended
     }
 }
 
-// The count of the array at place p.
+// The field of the count of the array at place p.
 fn count_field(p: usize, n: u32) -> Field
     ensures { λ r. ⌜ r ≡ countField p n ⌝ }
 {
     signed_field(4, p, n as u64)
 }
 
+// The count of the array at place p.
 fn array_count(s: &[u8], p: usize) -> Counted
     requires { ⌜ p < 0x8000000000000000 ⌝ }
     ensures { λ r. ⌜ outcomeOfCounted r ≡ run (arrayCount p) (now (s .entry)) ⌝ }
@@ -187,7 +192,7 @@ fn array_count(s: &[u8], p: usize) -> Counted
         return Counted::Short(p, first);
     }
     let n = le32(s, p);
-    if 0x8000_0000 <= n {
+    if NEGATIVE <= n {
         return Counted::Failed(Test {
             field: count_field(p, n),
             rule: Rule::NotNegative,
@@ -219,7 +224,7 @@ fn elements_of(s: &[u8], w: u8, d: Entry, n: u32) -> ItemRead
 fn count_tests(p: usize, n: u32, snps: u32) -> Tested
     ensures { λ r. ⌜ ((l : List ℕ) → outcomeOfTested r ≡ run (must (countField p n) (EqualTo snps) 9) l) ⌝ }
 {
-    if 0x8000_0000 <= n {
+    if NEGATIVE <= n {
         return failed(count_field(p, n), Rule::EqualTo(snps as u64), 9);
     }
     if n != snps {
@@ -337,7 +342,7 @@ fn offset_tests(n: usize, d: Entry) -> Tested
     ensures { λ r. ⌜ ((l : List ℕ) → outcomeOfTested r ≡ run (must (offsetField d) (AtLeast (tableEnd n)) 6) l) ⌝ }
 {
     let lowest = table_end(n);
-    if 0x8000_0000 <= d.offset {
+    if NEGATIVE <= d.offset {
         return failed(offset_field(d), Rule::AtLeast(lowest as u64), 6);
     }
     if (d.offset as usize) < lowest {

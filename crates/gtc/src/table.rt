@@ -31,6 +31,9 @@ const MOST_ENTRIES: u32 = 999;
 // An entry is a u16 id and an i32 offset.
 const ENTRY_SIZE: usize = 6;
 
+// A signed 32-bit number from here on is negative.
+pub(crate) const NEGATIVE: u32 = 0x8000_0000;
+
 // A count; or the first test that fails, or the bytes that are missing, by their start and end.
 pub(crate) enum Counted {
     Count(u32),
@@ -91,7 +94,7 @@ fn identifier_tests(identifier: u32, version: u8) -> Tested
 fn count_tests(count: u32) -> Tested
     ensures { λ r. ⌜ ((l : List ℕ) → outcomeOfTested r ≡ run (countCheck count) l) ⌝ }
 {
-    if 0x8000_0000 <= count {
+    if NEGATIVE <= count {
         return failed(entry_count_field(count), Rule::NotNegative, 4);
     }
     if MOST_ENTRIES < count {

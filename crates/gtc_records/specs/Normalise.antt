@@ -8,11 +8,11 @@ use Rattle.gtc_records.specs.declared.normalise.Point.{Point}
 
 -- with the cosine and sine of theta
 abbrev pub normalised : Transformation → ℕ → ℕ → Float → Float → Point
-normalised t xraw yraw cos sin =
-    let tempx = sub binary32 (ofInt binary32 (pos xraw)) (t .«offset_x») in
-    let tempy = sub binary32 (ofInt binary32 (pos yraw)) (t .«offset_y») in
+normalised xform xraw yraw cos sin =
+    let tempx = sub binary32 (ofInt binary32 (pos xraw)) (xform .«offset_x») in
+    let tempy = sub binary32 (ofInt binary32 (pos yraw)) (xform .«offset_y») in
     let tempx2 = add binary32 (mul binary32 cos tempx) (mul binary32 sin tempy) in
     let tempy2 = add binary32 (mul binary32 (neg sin) tempx) (mul binary32 cos tempy) in
-    let tempx3 = sub binary32 tempx2 (mul binary32 (t .shear) tempy2) in
+    let tempx3 = sub binary32 tempx2 (mul binary32 (xform .shear) tempy2) in
     let tempy3 = tempy2 in
-    record { x = div binary32 tempx3 (t .«scale_x»); y = div binary32 tempy3 (t .«scale_y») }
+    record { x = div binary32 tempx3 (xform .«scale_x»); y = div binary32 tempy3 (xform .«scale_y») }

@@ -60,4 +60,4 @@ transformationReading k = do
 
 -- its bytes
 abbrev pub transformationSpan : Transformed → Span
-transformationSpan t = record { start = t .start; size = transformationSize }
+transformationSpan transformed = record { start = transformed .start; size = transformationSize }

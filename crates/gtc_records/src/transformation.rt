@@ -13,7 +13,8 @@ ghost use lib.ListN.{length};
 ghost use Rattle.reading.specs.Check.{answer, mapAnswer};
 ghost use Rattle.reading.specs.Part.{shown, handedBack};
 ghost use Rattle.gtc.specs.Item.{itemEnd};
-ghost use Rattle.gtc_records.specs.Transformation.{transformationSize, floatAt, transformationAt, transformationOf, transformationReading, transformationSpan};
+ghost use Rattle.gtc_records.specs.Transformation.{transformationSize, floatAt, transformationAt, transformationOf};
+ghost use Rattle.gtc_records.specs.Transformation.{transformationReading, transformationSpan};
 ghost use Rattle.gtc_records.specs.Answers.{answerOfTransformationRead};
 
 // A transformation is a version and twelve floats.
