@@ -8,8 +8,8 @@ use Rattle.abif.specs.declared.directory.Opened.the-variants as opened
 
 -- the header and directory checks
 abbrev pub outcomeOfHeader : Header → Outcome (ℕ × ℕ)
-outcomeOfHeader (header.Good p n) = passed (p, n)
-outcomeOfHeader (header.Bad w) = failed w 0
+outcomeOfHeader (header.At p n) = passed (p, n)
+outcomeOfHeader (header.Failed w) = failed w 0
 outcomeOfHeader (header.Short p m) = short (record { start = p; end = m }) 0
 
 -- opening: the directory's place and count

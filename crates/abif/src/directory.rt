@@ -32,8 +32,8 @@ pub enum Opened {
 
 // The same, with the reason: the first test that fails, or the bytes that are missing, by their start and end.
 pub(crate) enum Header {
-    Good { place: u32, count: u32 },
-    Bad(Test),
+    At { place: u32, count: u32 },
+    Failed(Test),
     Short(usize, usize),
 }
 
@@ -119,10 +119,10 @@ pub(crate) fn read_header(s: &[u8]) -> Header
     let version = be16(h, 4);
     let d = entry_at(h, 6);
     if let Tested::Failed(t) = header_tests(mark, version, d) {
-        return Header::Bad(t);
+        return Header::Failed(t);
     }
     if let Tested::Failed(t) = bounds_tests(d) {
-        return Header::Bad(t);
+        return Header::Failed(t);
     }
     let place = d.data_offset;
     let count = d.element_count;
@@ -131,7 +131,7 @@ pub(crate) fn read_header(s: &[u8]) -> Header
     if s.len() < end {
         return Header::Short(start, end);
     }
-    Header::Good { place, count }
+    Header::At { place, count }
 }
 
 // Opens the file: the header and directory checks.
@@ -139,8 +139,8 @@ pub fn open(s: &[u8]) -> Opened
     ensures { λ r. ⌜ answerOfOpened r ≡ answer opening (now (s .entry)) ⌝ }
 {
     match read_header(s) {
-        Header::Good { place, count } => Opened::At { place, count },
-        Header::Bad(t) => Opened::Refused(t.number),
+        Header::At { place, count } => Opened::At { place, count },
+        Header::Failed(t) => Opened::Refused(t.number),
         Header::Short(_, _) => Opened::Refused(1),
     }
 }

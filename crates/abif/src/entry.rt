@@ -16,7 +16,8 @@ ghost use lib.ListN.{length};
 ghost use Rattle.reading.specs.Check.{run};
 ghost use Rattle.reading.specs.Entries.{firstWith};
 ghost use Rattle.reading.specs.Answers.{outcomeOfTested, outcomeOfEnded};
-ghost use Rattle.abif.specs.Entry.{entryOf, tag, name, number, elementType, elementSize, elementCount, dataSize, dataOffset, hasTag, typeOf, listedCheck, rawCheck, sizesCheck, placeCheck, entryCheck};
+ghost use Rattle.abif.specs.Entry.{entryOf, tag, name, number, elementType, elementSize, elementCount, dataSize, dataOffset};
+ghost use Rattle.abif.specs.Entry.{hasTag, typeOf, listedCheck, rawCheck, sizesCheck, placeCheck, entryCheck};
 
 // A directory entry with its place; a signed field as its unsigned number.
 pub struct Entry {
@@ -93,21 +94,23 @@ pub fn type_of(k: u16) -> ElementType
     ensures { λ r. ⌜ r ≡ typeOf k ⌝ }
 {
     match k {
-        1 => ElementType::Listed(1),
-        2 => ElementType::Listed(1),
-        3 => ElementType::Listed(2),
-        4 => ElementType::Listed(2),
-        5 => ElementType::Listed(4),
-        7 => ElementType::Listed(4),
-        8 => ElementType::Listed(8),
-        10 => ElementType::Listed(4),
-        11 => ElementType::Listed(4),
-        12 => ElementType::Listed(10),
-        13 => ElementType::Listed(1),
-        18 => ElementType::Listed(1),
-        19 => ElementType::Listed(1),
+        1 => ElementType::Listed(1), // byte
+        2 => ElementType::Listed(1), // char
+        3 => ElementType::Listed(2), // word
+        4 => ElementType::Listed(2), // short
+        5 => ElementType::Listed(4), // long
+        7 => ElementType::Listed(4), // float
+        8 => ElementType::Listed(8), // double
+        10 => ElementType::Listed(4), // date
+        11 => ElementType::Listed(4), // time
+        12 => ElementType::Listed(10), // thumb
+        13 => ElementType::Listed(1), // bool
+        18 => ElementType::Listed(1), // pString
+        19 => ElementType::Listed(1), // cString
+        // legacy types
         6 | 9 | 14 | 16 | 20 | 128 | 256 | 384 => ElementType::Raw,
         15 | 17 => ElementType::Raw,
+        // user types
         1024..=32767 => ElementType::Raw,
         _ => ElementType::Unknown,
     }

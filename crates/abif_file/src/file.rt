@@ -1,4 +1,5 @@
-// The opened file as a struct: its bytes, lent, with its directory's place and count. Each call takes it apart; one that was made by hand is as safe as one that opening gave.
+// The opened file as a struct: its bytes, lent, with its directory's place and count. Each call takes it apart; one that was made by hand is as
+// safe as one that opening gave.
 use crate::entry::RawEntry;
 use crate::list;
 use crate::opened;
@@ -24,6 +25,7 @@ ghost use Rattle.abif_file.specs.List.{listing};
 ghost use Rattle.abif_file.specs.Opened.{ofOpened};
 ghost use Rattle.abif_file.specs.File.{placeAndCount, openedFile};
 
+// An opened file.
 pub struct AbifFile<'a> {
     pub bytes: &'a [u8],
     pub place: u64,
@@ -101,7 +103,8 @@ pub fn text_part<'a>(f: AbifFile<'a>, name: u32, number: u32) -> &'a [u8]
 pub fn list<'a>(f: AbifFile<'a>, out: &mut [RawEntry]) -> Copied
     ensures { λ r. ⌜ (answerOfCopied r ≡ mapAnswer length
         (answer (ofOpened (f .entry .place) (f .entry .count) (listing (length (now (out .entry))))) (now (f .entry .bytes))))
-        × (now (out .exit) ≡ filled (answer (ofOpened (f .entry .place) (f .entry .count) (listing (length (now (out .entry))))) (now (f .entry .bytes))) (now (out .entry))) ⌝ }
+        × (now (out .exit) ≡ filled (answer (ofOpened (f .entry .place) (f .entry .count) (listing (length (now (out .entry))))) (now (f .entry .bytes)))
+        (now (out .entry))) ⌝ }
 {
     let r = opened::list_answer(f.bytes, f.place, f.count, out.len());
     list::fill(f.bytes, out, list::to_list(r));

@@ -25,13 +25,9 @@ eachElement rule (suc n) i = pick (rule (4 * i)) (eachElement rule n (i + 1)) fa
 -- text or date or time rules, of the bytes of an item of this type and count
 unfoldable pub contentsHold : ℕ → ℕ → List ℕ → Bool
 contentsHold code count bytes =
-    -- date
-    pick (eqb code 10) (eachElement (isDateAt bytes) count 0)
-    -- time
-    (pick (eqb code 11) (eachElement (isTimeAt bytes) count 0)
-    -- pString
-    (pick (eqb code 18) (isPString bytes)
-    -- cString
-    (pick (eqb code 19) (isCString bytes)
+    pick (eqb code 10) (eachElement (isDateAt bytes) count 0)  -- date
+    (pick (eqb code 11) (eachElement (isTimeAt bytes) count 0)  -- time
+    (pick (eqb code 18) (isPString bytes)  -- pString
+    (pick (eqb code 19) (isCString bytes)  -- cString
     -- other types have no rule
     true)))

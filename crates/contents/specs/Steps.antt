@@ -10,20 +10,23 @@ use Rattle.reading.specs.Check.{Check, unsignedField, done, must, provided, _>>
 
 -- the flow step at place p
 abbrev pub flowStep : List ℕ → ℕ → ℕ
-flowStep l p = be 1 l p
+flowStep bytes p = be 1 bytes p
 
--- no running sum of the n flow steps from place p on passes f, where the steps before them have the sum t
+-- no running sum of the n flow steps from place p on passes the flows, where the steps before them have this sum
 unfoldable pub sumsWithin : ℕ → List ℕ → ℕ → ℕ → ℕ → Bool
-sumsWithin f l p t zero = true
-sumsWithin f l p t (suc n) = pick (leb (t + flowStep l p) f) (sumsWithin f l (p + 1) (t + flowStep l p) n) false
+sumsWithin flows bytes p sum zero = true
+sumsWithin flows bytes p sum (suc n) =
+    pick (leb (sum + flowStep bytes p) flows)
+    (sumsWithin flows bytes (p + 1) (sum + flowStep bytes p) n)
+    false
 
--- the n flow steps from place p on: the first at least 1, and no running sum past the f flows
+-- the n flow steps from place p on: the first flow step must be at least 1, and running sums may not pass the flows, 11
 unfoldable pub stepsCheck : ℕ → List ℕ → ℕ → ℕ → Check (Unit {0})
-stepsCheck f l p n = do
-  pick (eqb n 0) (done tt) (must (unsignedField 1 p (flowStep l p)) (AtLeast 1) 11)
-  provided (sumsWithin f l p 0 n) 11
+stepsCheck flows bytes p n = do
+  pick (eqb n 0) (done tt) (must (unsignedField 1 p (flowStep bytes p)) (AtLeast 1) 11)
+  provided (sumsWithin flows bytes p 0 n) 11
 
 -- the sum of the n flow steps from place p on
 unfoldable pub stepSum : List ℕ → ℕ → ℕ → ℕ
-stepSum l p zero = 0
-stepSum l p (suc n) = flowStep l p + stepSum l (p + 1) n
+stepSum bytes p zero = 0
+stepSum bytes p (suc n) = flowStep bytes p + stepSum bytes (p + 1) n

@@ -9,17 +9,17 @@ use Rattle.reading.specs.Number.{be}
 
 -- one of the n bytes from place p on is zero
 unfoldable pub zeroAmong : List ℕ → ℕ → ℕ → Bool
-zeroAmong l p zero = false
-zeroAmong l p (suc n) = pick (eqb (getD l p 0) 0) true (zeroAmong l (p + 1) n)
+zeroAmong bytes p zero = false
+zeroAmong bytes p (suc n) = pick (eqb (getD bytes p 0) 0) true (zeroAmong bytes (p + 1) n)
 
--- a pString has a first byte equal to data size - 1
+-- a pString needs a first byte equal to data size - 1; size 0 is none
 unfoldable pub isPString : List ℕ → Bool
 isPString bytes =
     pick (leb 1 (length bytes))
     (eqb (be 1 bytes 0) (length bytes - 1))
     false
 
--- a cString has a zero as its last byte and nowhere else
+-- a cString needs a zero as its last byte and nowhere else; size 0 is none
 unfoldable pub isCString : List ℕ → Bool
 isCString bytes =
     pick (leb 1 (length bytes))
