@@ -1,10 +1,10 @@
 /* jtview: judges, lists, shows, draws and exports sequencing files. */
+#include "folder.h"
 #include "help.h"
 #include "list.h"
 #include "memory.h"
 #include "options.h"
 #include "output.h"
-#include "shelf.h"
 #include "show.h"
 #include "words.h"
 

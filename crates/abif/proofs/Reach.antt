@@ -5,7 +5,7 @@ use mathlib.Core.List.{List}
 use mathlib.Core.Bool.{Bool, true, false}
 use native.Mathlib.Omega.{arith}
 use lib.ListN.{length, take, length-take}
-use lib.Dec.{leb, eqb}
+use lib.Dec.{leb}
 use Rattle.reading.specs.Choice.{pick}
 use Rattle.reading.specs.declared.check.Rule.the-variants.{AtLeast}
 use Rattle.reading.specs.Check.{Check, ok, answer, done, must, need, _>>=_, _>>_}
@@ -14,9 +14,9 @@ use Rattle.reading.specs.Entries.{inOrder}
 use Rattle.reading.proofs.Cut.{answer-same}
 use Rattle.reading.proofs.Steps.{reach-done, reach-must, reach-need}
 use Rattle.reading.proofs.Passed.{bind-ok, done-ok, ok-inj}
-use Rattle.reading.proofs.Reach.{reach-none, reach-under, reach-must-under, reach-need-under, reach-pick-under, reach-done-under}
+use Rattle.reading.proofs.Reach.{reach-none, reach-under, reach-must-under, reach-done-under}
 use Rattle.reading.proofs.Entries.{one-ok, one-needs-none, order-ends}
-use Rattle.abif.specs.declared.lookup.ItemData.{ItemData}
+use Rattle.reading.specs.declared.item.ItemData.{ItemData}
 use Rattle.abif.specs.declared.entry.Entry.{Entry}
 use Rattle.abif.specs.declared.entry.ElementType.{ElementType}
 use Rattle.abif.specs.declared.entry.ElementType.the-variants.{Listed, Raw, Unknown}
@@ -24,9 +24,6 @@ use Rattle.abif.specs.Entry.{entryOf, hasTag, dataOffset, typeOf, listed
 use Rattle.abif.specs.Directory.{Directory, headerCheck, boundsCheck, directory, opening}
 use Rattle.abif.specs.Judge.{judgeEntry, judging}
 use Rattle.abif.specs.Lookup.{itemOf, lookupIn, lookingUp}
-use Rattle.abif.specs.Element.{dateAt, timeAt, valueAt, elementOf, elementReading}
-use Rattle.abif.specs.Numbers.{numbersOf, numbersReading}
-use Rattle.abif.specs.Text.{pString, cString, textOf, textReading}
 use Rattle.abif.proofs.lookup.Laws.{found-checked}
 
 header-none : (a b : ℕ) (d : Entry) (s : List ℕ) → reach (headerCheck a b d) s ≡ 0
@@ -47,19 +44,19 @@ sizes-none Unknown d s = search (reach-none, reach-must) depth 12
 itemEnd : Entry → ℕ
 itemEnd d = pick (leb (d .«data_size») 4) 0 (d .«data_offset» + d .«data_size»)
 
--- where data stand apart: their place and presence
-apart : Entry → Check ℕ
-apart d = must (dataOffset d) (AtLeast 128) 6 >> (need (d .«data_offset») (d .«data_offset» + d .«data_size») >> done (d .«data_offset» + d .«data_size»))
+-- where data stand outside the entry: their place and presence
+outsideCheck : Entry → Check ℕ
+outsideCheck d = must (dataOffset d) (AtLeast 128) 6 >> (need (d .«data_offset») (d .«data_offset» + d .«data_size») >> done (d .«data_offset» + d .«data_size»))
 
 -- the end of an entry's data is what its checks answer, and what they need
 place-end : (d : Entry) (s : List ℕ) (y : ℕ) → answer (placeCheck d) s ≡ ok y → (itemEnd d ≡ y) × (reach (placeCheck d) s ≡ y)
-unfolding placeCheck itemEnd apart
+unfolding placeCheck itemEnd outsideCheck
 place-end d s y h = go (leb (d .«data_size») 4) h
   where
     m : ℕ
     m = d .«data_offset» + d .«data_size»
 
-    go : (b : Bool) → answer (pick b (done 0) (apart d)) s ≡ ok y → (pick b 0 m ≡ y) × (reach (pick b (done 0) (apart d)) s ≡ y)
+    go : (b : Bool) → answer (pick b (done 0) (outsideCheck d)) s ≡ ok y → (pick b 0 m ≡ y) × (reach (pick b (done 0) (outsideCheck d)) s ≡ y)
     go true w = (done-ok 0 y s w, reach-done 0 s ∙ done-ok 0 y s w)
     go false w =
         let a = bind-ok _ _ s y w in
@@ -69,10 +66,10 @@ place-end d s y h = go (leb (d .«data_size») 4) h
 
 -- whatever its outcome, the check of an entry needs no more than the end of its data
 entry-under : (x : ℕ) (d : Entry) (s : List ℕ) → itemEnd d ≤ x → reach (entryCheck d) s ≤ x
-unfolding entryCheck placeCheck itemEnd apart
+unfolding entryCheck placeCheck itemEnd outsideCheck
 entry-under x d s h = reach-under x _ _ s (rw (sizes-none (typeOf (d .«element_type»)) d s) (omega arith)) (λ _ _. go (leb (d .«data_size») 4) h)
   where
-    go : (b : Bool) → pick b 0 (d .«data_offset» + d .«data_size») ≤ x → reach (pick b (done 0) (apart d)) s ≤ x
+    go : (b : Bool) → pick b 0 (d .«data_offset» + d .«data_size») ≤ x → reach (pick b (done 0) (outsideCheck d)) s ≤ x
     go true q = reach-done-under x 0 s
     go false q =
         reach-under x _ _ s (reach-must-under x _ _ _ s) (λ _ _.
@@ -137,53 +134,8 @@ lookup-under a b s x w =
     (λ _ _. reach-done-under x _ s))))
 
 -- the data that lookup finds lie within the extent
-found-under : (a b : ℕ) (s : List ℕ) (x : ℕ) → answer judging s ≡ ok x → (q : ItemData) → answer (lookingUp a b) s ≡ ok q → q .start + q .size ≤ x
+pub found-under : (a b : ℕ) (s : List ℕ) (x : ℕ) → answer judging s ≡ ok x → (q : ItemData) → answer (lookingUp a b) s ≡ ok q → q .start + q .size ≤ x
 found-under a b s x w q e =
     let f = found-checked (take x s) a b q (answer-same (lookingUp a b) x s (lookup-under a b s x w) ∙ e) in
     let l : length (take x s) ≡ min x (length s) = length-take x s in
     omega arith
-
-date-under : (x : ℕ) (l : List ℕ) (p : ℕ) (s : List ℕ) → reach (dateAt l p) s ≤ x
-unfolding dateAt
-date-under x l p s = reach-under x _ _ s (reach-must-under x _ _ _ s) (λ _ _. reach-under x _ _ s (reach-must-under x _ _ _ s) (λ _ _. reach-done-under x _ s))
-
-time-under : (x : ℕ) (l : List ℕ) (p : ℕ) (s : List ℕ) → reach (timeAt l p) s ≤ x
-unfolding timeAt
-time-under x l p s = reach-under x _ _ s (reach-must-under x _ _ _ s) (λ _ _. reach-under x _ _ s (reach-must-under x _ _ _ s) (λ _ _. reach-under x _ _ s (reach-must-under x _ _ _ s) (λ _ _. reach-under x _ _ s (reach-must-under x _ _ _ s) (λ _ _. reach-done-under x _ s))))
-
-value-under : (x k : ℕ) (l : List ℕ) (p : ℕ) (s : List ℕ) → reach (valueAt k l p) s ≤ x
-unfolding valueAt
-value-under x k l p s = search (reach-pick-under, reach-done-under, date-under, time-under) depth 12
-
--- a call that looks up a tag, then reads the item's bytes
-pub element-under : (a b i : ℕ) (s : List ℕ) (x : ℕ) → answer judging s ≡ ok x → reach (elementReading a b i) s ≤ x
-unfolding elementReading elementOf
-element-under a b i s x w =
-    reach-under x _ _ s (lookup-under a b s x w) (λ q e.
-    reach-under x _ _ s (reach-must-under x _ _ _ s) (λ _ _.
-    reach-under x _ _ s (reach-must-under x _ _ _ s) (λ _ _.
-    reach-under x _ _ s (reach-need-under x _ _ s (found-under a b s x w q e)) (λ l _.
-    value-under x _ l _ s))))
-
-pub numbers-under : (a b i r : ℕ) (s : List ℕ) (x : ℕ) → answer judging s ≡ ok x → reach (numbersReading a b i r) s ≤ x
-unfolding numbersReading numbersOf
-numbers-under a b i r s x w =
-    reach-under x _ _ s (lookup-under a b s x w) (λ q e.
-    reach-under x _ _ s (reach-must-under x _ _ _ s) (λ _ _.
-    reach-under x _ _ s (reach-must-under x _ _ _ s) (λ _ _.
-    reach-under x _ _ s (reach-must-under x _ _ _ s) (λ _ _.
-    reach-under x _ _ s (reach-need-under x _ _ s (found-under a b s x w q e)) (λ l _.
-    reach-done-under x _ s)))))
-
-string-under : (x k : ℕ) (q : ItemData) (l s : List ℕ) → reach (pick (eqb k 18) (pString q l) (cString q l)) s ≤ x
-unfolding pString cString
-string-under x k q l s = search (reach-pick-under, reach-under, reach-must-under, reach-done-under) depth 12
-
-pub text-under : (a b : ℕ) (s : List ℕ) (x : ℕ) → answer judging s ≡ ok x → reach (textReading a b) s ≤ x
-unfolding textReading textOf
-text-under a b s x w =
-    reach-under x _ _ s (lookup-under a b s x w) (λ q e.
-    reach-under x _ _ s (reach-must-under x _ _ _ s) (λ _ _.
-    reach-under x _ _ s (reach-must-under x _ _ _ s) (λ _ _.
-    reach-under x _ _ s (reach-need-under x _ _ s (found-under a b s x w q e)) (λ l _.
-    string-under x (q .«element_type») q l s))))

@@ -2,6 +2,5 @@ pub mod Entry
 pub mod Directory
 pub mod Judge
 pub mod Lookup
-pub mod Element
-pub mod Numbers
-pub mod Text
+pub mod Answers
+pub mod Private

@@ -1,10 +1,19 @@
 // The header and the directory's place.
 use crate::entry::Entry;
+use crate::entry::data_offset_field;
+use crate::entry::data_size_field;
+use crate::entry::element_count_field;
+use crate::entry::element_size_field;
+use crate::entry::element_type_field;
 use crate::entry::entry_at;
-use reading::check::Field;
+use crate::entry::name_field;
+use crate::entry::number_field;
 use reading::check::Rule;
 use reading::check::Test;
 use reading::check::Tested;
+use reading::check::failed;
+use reading::check::signed_field;
+use reading::check::unsigned_field;
 use reading::number::be16;
 use reading::number::be32;
 ghost use mathlib.Core.Path.{_≡_};
@@ -12,7 +21,8 @@ ghost use mathlib.Core.List.{List};
 ghost use Prim.Native.Nat.{ℕ, _<_};
 ghost use Rattle.reading.specs.Check.{run, answer};
 ghost use Rattle.reading.specs.Answers.{outcomeOfTested};
-ghost use Rattle.abif.specs.Directory.{headerCheck, boundsCheck, opening, read, opened};
+ghost use Rattle.abif.specs.Directory.{headerCheck, boundsCheck, opening};
+ghost use Rattle.abif.specs.Answers.{outcomeOfHeader, answerOfOpened};
 
 // What opening finds: the directory's place and count, or the refusal.
 pub enum Opened {
@@ -27,94 +37,47 @@ pub(crate) enum Header {
     Short(usize, usize),
 }
 
+// The mark "ABIF", and the name "tdir" of the header's entry.
+const ABIF_MARK: u32 = 0x41424946;
+
+const TDIR_NAME: u32 = 0x74646972;
+
 fn header_tests(mark: u32, version: u16, d: Entry) -> Tested
     requires { ⌜ d .place < 0x8000000000000000 ⌝ }
     ensures { λ r. ⌜ ((l : List ℕ) → outcomeOfTested r ≡ run (headerCheck mark version d) l) ⌝ }
 {
-    let name = Field {
-        place: d.place,
-        width: 4,
-        sign: false,
-        value: d.name as u64,
-    };
-    let number = Field {
-        place: d.place + 4,
-        width: 4,
-        sign: true,
-        value: d.number as u64,
-    };
-    let code = Field {
-        place: d.place + 8,
-        width: 2,
-        sign: true,
-        value: d.element_type as u64,
-    };
-    let width = Field {
-        place: d.place + 10,
-        width: 2,
-        sign: true,
-        value: d.element_size as u64,
-    };
-    let first = Field {
-        place: 0,
-        width: 4,
-        sign: false,
-        value: mark as u64,
-    };
-    let second = Field {
-        place: 4,
-        width: 2,
-        sign: true,
-        value: version as u64,
-    };
-    if mark != 0x41424946 {
-        return Tested::Failed(Test {
-            field: first,
-            rule: Rule::Exactly(0x41424946),
-            number: 2,
-        });
+    if mark != ABIF_MARK {
+        return failed(
+            unsigned_field(4, 0, mark as u64),
+            Rule::Exactly(ABIF_MARK as u64),
+            2,
+        );
     }
     if version < 100 {
-        return Tested::Failed(Test {
-            field: second,
-            rule: Rule::Between(100, 199),
-            number: 3,
-        });
+        return failed(
+            signed_field(2, 4, version as u64),
+            Rule::Between(100, 199),
+            3,
+        );
     }
     if 199 < version {
-        return Tested::Failed(Test {
-            field: second,
-            rule: Rule::Between(100, 199),
-            number: 3,
-        });
+        return failed(
+            signed_field(2, 4, version as u64),
+            Rule::Between(100, 199),
+            3,
+        );
     }
-    if d.name != 0x74646972 {
-        return Tested::Failed(Test {
-            field: name,
-            rule: Rule::Exactly(0x74646972),
-            number: 4,
-        });
+    if d.name != TDIR_NAME {
+        return failed(name_field(d), Rule::Exactly(TDIR_NAME as u64), 4);
     }
     if d.number != 1 {
-        return Tested::Failed(Test {
-            field: number,
-            rule: Rule::Exactly(1),
-            number: 4,
-        });
+        return failed(number_field(d), Rule::Exactly(1), 4);
     }
     if d.element_type != 1023 {
-        return Tested::Failed(Test {
-            field: code,
-            rule: Rule::Exactly(1023),
-            number: 4,
-        });
+        return failed(element_type_field(d), Rule::Exactly(1023), 4);
     }
     if d.element_size != 28 {
-        return Tested::Failed(Test {
-            field: width,
-            rule: Rule::Exactly(28),
-            number: 4,
-        });
+        return failed(element_size_field(d), Rule::Exactly(28), 4);
     }
     Tested::Passed
 }
@@ -123,72 +86,30 @@ fn bounds_tests(d: Entry) -> Tested
     requires { ⌜ d .place < 0x8000000000000000 ⌝ }
     ensures { λ r. ⌜ ((l : List ℕ) → outcomeOfTested r ≡ run (boundsCheck d) l) ⌝ }
 {
-    let count = Field {
-        place: d.place + 12,
-        width: 4,
-        sign: true,
-        value: d.element_count as u64,
-    };
-    let size = Field {
-        place: d.place + 16,
-        width: 4,
-        sign: true,
-        value: d.data_size as u64,
-    };
-    let offset = Field {
-        place: d.place + 20,
-        width: 4,
-        sign: true,
-        value: d.data_offset as u64,
-    };
     if 0x8000_0000 <= d.element_count {
-        return Tested::Failed(Test {
-            field: count,
-            rule: Rule::NotNegative,
-            number: 4,
-        });
+        return failed(element_count_field(d), Rule::NotNegative, 4);
     }
     if 999 < d.element_count {
-        return Tested::Failed(Test {
-            field: count,
-            rule: Rule::AtMost(999),
-            number: 5,
-        });
+        return failed(element_count_field(d), Rule::AtMost(999), 5);
     }
     let least = 28 * d.element_count;
     if 0x8000_0000 <= d.data_size {
-        return Tested::Failed(Test {
-            field: size,
-            rule: Rule::AtLeast(least as u64),
-            number: 4,
-        });
+        return failed(data_size_field(d), Rule::AtLeast(least as u64), 4);
     }
     if d.data_size < least {
-        return Tested::Failed(Test {
-            field: size,
-            rule: Rule::AtLeast(least as u64),
-            number: 4,
-        });
+        return failed(data_size_field(d), Rule::AtLeast(least as u64), 4);
     }
     if 0x8000_0000 <= d.data_offset {
-        return Tested::Failed(Test {
-            field: offset,
-            rule: Rule::AtLeast(128),
-            number: 6,
-        });
+        return failed(data_offset_field(d), Rule::AtLeast(128), 6);
     }
     if d.data_offset < 128 {
-        return Tested::Failed(Test {
-            field: offset,
-            rule: Rule::AtLeast(128),
-            number: 6,
-        });
+        return failed(data_offset_field(d), Rule::AtLeast(128), 6);
     }
     Tested::Passed
 }
 
 pub(crate) fn read_header(s: &[u8]) -> Header
-    ensures { λ r. ⌜ read r ≡ run opening (now (s .entry)) ⌝ }
+    ensures { λ r. ⌜ outcomeOfHeader r ≡ run opening (now (s .entry)) ⌝ }
 {
     if s.len() < 128 {
         return Header::Short(0, 128);
@@ -213,8 +134,9 @@ pub(crate) fn read_header(s: &[u8]) -> Header
     Header::Good { place, count }
 }
 
+// Opens the file: the header and directory checks.
 pub fn open(s: &[u8]) -> Opened
-    ensures { λ r. ⌜ opened r ≡ answer opening (now (s .entry)) ⌝ }
+    ensures { λ r. ⌜ answerOfOpened r ≡ answer opening (now (s .entry)) ⌝ }
 {
     match read_header(s) {
         Header::Good { place, count } => Opened::At { place, count },

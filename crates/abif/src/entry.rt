@@ -1,8 +1,12 @@
 // A directory entry and its checks.
+use reading::check::Ended;
 use reading::check::Field;
 use reading::check::Rule;
 use reading::check::Test;
 use reading::check::Tested;
+use reading::check::failed;
+use reading::check::signed_field;
+use reading::check::unsigned_field;
 use reading::number::be16;
 use reading::number::be32;
 ghost use mathlib.Core.Path.{_≡_};
@@ -11,8 +15,8 @@ ghost use Prim.Native.Nat.{ℕ, _+_, _-_, _*_, _≤_, _<_};
 ghost use lib.ListN.{length};
 ghost use Rattle.reading.specs.Check.{run};
 ghost use Rattle.reading.specs.Entries.{firstWith};
-ghost use Rattle.reading.specs.Answers.{outcomeOfTested};
-ghost use Rattle.abif.specs.Entry.{entryOf, hasTag, typeOf, listedCheck, rawCheck, sizesCheck, placeCheck, entryCheck, item};
+ghost use Rattle.reading.specs.Answers.{outcomeOfTested, outcomeOfEnded};
+ghost use Rattle.abif.specs.Entry.{entryOf, tag, name, number, elementType, elementSize, elementCount, dataSize, dataOffset, hasTag, typeOf, listedCheck, rawCheck, sizesCheck, placeCheck, entryCheck};
 
 // A directory entry with its place; a signed field as its unsigned number.
 pub struct Entry {
@@ -33,13 +37,10 @@ pub enum ElementType {
     Unknown,
 }
 
-// What an entry's checks find: the end of its data (0 for data in the entry), the first test that fails, or the bytes that are missing, by
-// their start and end.
-pub(crate) enum Item {
-    End(usize),
-    Bad(Test),
-    Short(usize, usize),
-}
+// The requirement that a type is handled, and that no earlier entry has the tag.
+const HANDLED_TYPE: u8 = 1;
+
+pub(crate) const NEW_TAG: u8 = 2;
 
 pub(crate) fn entry_at(h: &[u8], p: usize) -> Entry
     requires { ⌜ p + 28 ≤ length (now h) ⌝ }
@@ -112,63 +113,80 @@ pub fn type_of(k: u16) -> ElementType
     }
 }
 
+// The fields of an entry, as a test tells of them.
+pub(crate) fn tag_field(d: Entry) -> Field
+    ensures { λ r. ⌜ r ≡ tag d ⌝ }
+{
+    unsigned_field(8, d.place, 4294967296 * d.name as u64 + d.number as u64)
+}
+
+pub(crate) fn name_field(d: Entry) -> Field
+    ensures { λ r. ⌜ r ≡ name d ⌝ }
+{
+    unsigned_field(4, d.place, d.name as u64)
+}
+
+pub(crate) fn number_field(d: Entry) -> Field
+    requires { ⌜ d .place < 0x8000000000000000 ⌝ }
+    ensures { λ r. ⌜ r ≡ number d ⌝ }
+{
+    signed_field(4, d.place + 4, d.number as u64)
+}
+
+pub(crate) fn element_type_field(d: Entry) -> Field
+    requires { ⌜ d .place < 0x8000000000000000 ⌝ }
+    ensures { λ r. ⌜ r ≡ elementType d ⌝ }
+{
+    signed_field(2, d.place + 8, d.element_type as u64)
+}
+
+pub(crate) fn element_size_field(d: Entry) -> Field
+    requires { ⌜ d .place < 0x8000000000000000 ⌝ }
+    ensures { λ r. ⌜ r ≡ elementSize d ⌝ }
+{
+    signed_field(2, d.place + 10, d.element_size as u64)
+}
+
+pub(crate) fn element_count_field(d: Entry) -> Field
+    requires { ⌜ d .place < 0x8000000000000000 ⌝ }
+    ensures { λ r. ⌜ r ≡ elementCount d ⌝ }
+{
+    signed_field(4, d.place + 12, d.element_count as u64)
+}
+
+pub(crate) fn data_size_field(d: Entry) -> Field
+    requires { ⌜ d .place < 0x8000000000000000 ⌝ }
+    ensures { λ r. ⌜ r ≡ dataSize d ⌝ }
+{
+    signed_field(4, d.place + 16, d.data_size as u64)
+}
+
+pub(crate) fn data_offset_field(d: Entry) -> Field
+    requires { ⌜ d .place < 0x8000000000000000 ⌝ }
+    ensures { λ r. ⌜ r ≡ dataOffset d ⌝ }
+{
+    signed_field(4, d.place + 20, d.data_offset as u64)
+}
+
 fn listed_tests(w: u16, d: Entry) -> Tested
     requires { ⌜ d .place < 0x8000000000000000 ⌝ }
     ensures { λ r. ⌜ ((l : List ℕ) → outcomeOfTested r ≡ run (listedCheck w d) l) ⌝ }
 {
-    let width = Field {
-        place: d.place + 10,
-        width: 2,
-        sign: true,
-        value: d.element_size as u64,
-    };
-    let count = Field {
-        place: d.place + 12,
-        width: 4,
-        sign: true,
-        value: d.element_count as u64,
-    };
-    let size = Field {
-        place: d.place + 16,
-        width: 4,
-        sign: true,
-        value: d.data_size as u64,
-    };
     if 0x8000 <= d.element_size {
-        return Tested::Failed(Test {
-            field: width,
-            rule: Rule::Exactly(w as u64),
-            number: 9,
-        });
+        return failed(element_size_field(d), Rule::Exactly(w as u64), 9);
     }
     if d.element_size != w {
-        return Tested::Failed(Test {
-            field: width,
-            rule: Rule::Exactly(w as u64),
-            number: 9,
-        });
+        return failed(element_size_field(d), Rule::Exactly(w as u64), 9);
     }
     if 0x8000_0000 <= d.element_count {
-        return Tested::Failed(Test {
-            field: count,
-            rule: Rule::NotNegative,
-            number: 9,
-        });
+        return failed(element_count_field(d), Rule::NotNegative, 9);
     }
     let whole = w as u64 * d.element_count as u64;
     if 0x8000_0000 <= d.data_size {
-        return Tested::Failed(Test {
-            field: size,
-            rule: Rule::EqualTo(whole),
-            number: 9,
-        });
+        return failed(data_size_field(d), Rule::EqualTo(whole), 9);
     }
     if d.data_size as u64 != whole {
-        return Tested::Failed(Test {
-            field: size,
-            rule: Rule::EqualTo(whole),
-            number: 9,
-        });
+        return failed(data_size_field(d), Rule::EqualTo(whole), 9);
     }
     Tested::Passed
 }
@@ -177,44 +195,14 @@ fn raw_tests(d: Entry) -> Tested
     requires { ⌜ d .place < 0x8000000000000000 ⌝ }
     ensures { λ r. ⌜ ((l : List ℕ) → outcomeOfTested r ≡ run (rawCheck d) l) ⌝ }
 {
-    let width = Field {
-        place: d.place + 10,
-        width: 2,
-        sign: true,
-        value: d.element_size as u64,
-    };
-    let count = Field {
-        place: d.place + 12,
-        width: 4,
-        sign: true,
-        value: d.element_count as u64,
-    };
-    let size = Field {
-        place: d.place + 16,
-        width: 4,
-        sign: true,
-        value: d.data_size as u64,
-    };
     if 0x8000 <= d.element_size {
-        return Tested::Failed(Test {
-            field: width,
-            rule: Rule::NotNegative,
-            number: 9,
-        });
+        return failed(element_size_field(d), Rule::NotNegative, 9);
     }
     if 0x8000_0000 <= d.element_count {
-        return Tested::Failed(Test {
-            field: count,
-            rule: Rule::NotNegative,
-            number: 9,
-        });
+        return failed(element_count_field(d), Rule::NotNegative, 9);
     }
     if 0x8000_0000 <= d.data_size {
-        return Tested::Failed(Test {
-            field: size,
-            rule: Rule::NotNegative,
-            number: 9,
-        });
+        return failed(data_size_field(d), Rule::NotNegative, 9);
     }
     Tested::Passed
 }
@@ -226,19 +214,7 @@ fn sizes_tests(k: ElementType, d: Entry) -> Tested
     match k {
         ElementType::Listed(w) => listed_tests(w, d),
         ElementType::Raw => raw_tests(d),
-        ElementType::Unknown => {
-            let code = Field {
-                place: d.place + 8,
-                width: 2,
-                sign: true,
-                value: d.element_type as u64,
-            };
-            Tested::Failed(Test {
-                field: code,
-                rule: Rule::Other(1, false),
-                number: 10,
-            })
-        }
+        ElementType::Unknown => failed(element_type_field(d), Rule::Other(HANDLED_TYPE, false), 10),
     }
 }
 
@@ -249,29 +225,23 @@ fn end_of(offset: u32, size: u32) -> usize
     offset as usize + size as usize
 }
 
-fn place_tests(s: &[u8], d: Entry) -> Item
+fn place_tests(s: &[u8], d: Entry) -> Ended
     requires { ⌜ d .place < 0x8000000000000000 ⌝ }
-    ensures { λ r. ⌜ item r ≡ run (placeCheck d) (now (s .entry)) ⌝ }
+    ensures { λ r. ⌜ outcomeOfEnded r ≡ run (placeCheck d) (now (s .entry)) ⌝ }
 {
-    let offset = Field {
-        place: d.place + 20,
-        width: 4,
-        sign: true,
-        value: d.data_offset as u64,
-    };
     if d.data_size <= 4 {
-        return Item::End(0);
+        return Ended::At(0);
     }
     if 0x8000_0000 <= d.data_offset {
-        return Item::Bad(Test {
-            field: offset,
+        return Ended::Failed(Test {
+            field: data_offset_field(d),
             rule: Rule::AtLeast(128),
             number: 6,
         });
     }
     if d.data_offset < 128 {
-        return Item::Bad(Test {
-            field: offset,
+        return Ended::Failed(Test {
+            field: data_offset_field(d),
             rule: Rule::AtLeast(128),
             number: 6,
         });
@@ -279,18 +249,18 @@ fn place_tests(s: &[u8], d: Entry) -> Item
     let start = d.data_offset as usize;
     let end = end_of(d.data_offset, d.data_size);
     if s.len() < end {
-        return Item::Short(start, end);
+        return Ended::Short(start, end);
     }
-    Item::End(end)
+    Ended::At(end)
 }
 
-pub(crate) fn entry_tests(s: &[u8], d: Entry) -> Item
+pub(crate) fn entry_tests(s: &[u8], d: Entry) -> Ended
     requires { ⌜ d .place < 0x8000000000000000 ⌝ }
-    ensures { λ r. ⌜ item r ≡ run (entryCheck d) (now (s .entry)) ⌝ }
+    ensures { λ r. ⌜ outcomeOfEnded r ≡ run (entryCheck d) (now (s .entry)) ⌝ }
 {
     let k = type_of(d.element_type);
     if let Tested::Failed(t) = sizes_tests(k, d) {
-        return Item::Bad(t);
+        return Ended::Failed(t);
     }
     place_tests(s, d)
 }

@@ -2,31 +2,21 @@
 use crate::directory::Opened;
 use crate::directory::open;
 use crate::entry::Entry;
-use crate::entry::Item;
 use crate::entry::entry_at;
 use crate::entry::entry_tests;
 use crate::entry::first_tag;
+use reading::check::Ended;
+use reading::item::Found;
+use reading::item::ItemData;
 use reading::part::part;
 ghost use mathlib.Core.Path.{_≡_};
 ghost use Prim.Native.Nat.{_+_, _*_, _≤_, _<_};
 ghost use lib.ListN.{length};
 ghost use Rattle.reading.specs.Check.{answer, mapAnswer};
 ghost use Rattle.reading.specs.Part.{shown, handedBack};
-ghost use Rattle.abif.specs.Lookup.{dataOf, itemOf, lookupIn, lookingUp, found, dataSpan};
-
-// An item's data: where they stand, with the type and the count.
-pub struct ItemData {
-    pub start: usize,
-    pub size: usize,
-    pub element_type: u16,
-    pub count: u32,
-}
-
-// What lookup finds, or the refusal.
-pub enum Found {
-    Data(ItemData),
-    Refused(u8),
-}
+ghost use Rattle.reading.specs.Item.{dataSpan};
+ghost use Rattle.reading.specs.Answers.{answerOfFound};
+ghost use Rattle.abif.specs.Lookup.{dataOf, itemOf, lookupIn, lookingUp};
 
 // Data of 4 bytes or fewer are the first bytes of the entry's own offset field.
 fn data_of(d: Entry) -> ItemData
@@ -37,32 +27,32 @@ fn data_of(d: Entry) -> ItemData
         return ItemData {
             start: d.place + 20,
             size: d.data_size as usize,
-            element_type: d.element_type,
+            code: d.element_type,
             count: d.element_count,
         };
     }
     ItemData {
         start: d.data_offset as usize,
         size: d.data_size as usize,
-        element_type: d.element_type,
+        code: d.element_type,
         count: d.element_count,
     }
 }
 
 fn item_of(s: &[u8], d: Entry) -> Found
     requires { ⌜ d .place < 0x8000000000000000 ⌝ }
-    ensures { λ r. ⌜ found r ≡ answer (itemOf d) (now (s .entry)) ⌝ }
+    ensures { λ r. ⌜ answerOfFound r ≡ answer (itemOf d) (now (s .entry)) ⌝ }
 {
     match entry_tests(s, d) {
-        Item::Bad(t) => Found::Refused(t.number),
-        Item::Short(_, _) => Found::Refused(1),
-        Item::End(_) => Found::Data(data_of(d)),
+        Ended::Failed(t) => Found::Refused(t.number),
+        Ended::Short(_, _) => Found::Refused(1),
+        Ended::At(_) => Found::Data(data_of(d)),
     }
 }
 
 fn lookup_in(s: &[u8], h: &[u8], p: usize, n: usize, name: u32, number: u32) -> Found
     requires { ⌜ p + 28 * n ≤ length (now h) ⌝ }
-    ensures { λ r. ⌜ found r ≡ answer (lookupIn (now (h .entry)) p n name number) (now (s .entry)) ⌝ }
+    ensures { λ r. ⌜ answerOfFound r ≡ answer (lookupIn (now (h .entry)) p n name number) (now (s .entry)) ⌝ }
 {
     let i = first_tag(h, p, name, number, 0, n);
     if n <= i {
@@ -77,7 +67,7 @@ fn lookup_in(s: &[u8], h: &[u8], p: usize, n: usize, name: u32, number: u32) -> 
 
 // The item with the tag of this name and number, which is given by its 32 bits.
 pub fn lookup(s: &[u8], name: u32, number: u32) -> Found
-    ensures { λ r. ⌜ found r ≡ answer (lookingUp name number) (now (s .entry)) ⌝ }
+    ensures { λ r. ⌜ answerOfFound r ≡ answer (lookingUp name number) (now (s .entry)) ⌝ }
 {
     match open(s) {
         Opened::Refused(n) => Found::Refused(n),

@@ -9,7 +9,8 @@ ghost use mathlib.Core.Path.{_≡_};
 ghost use Prim.Native.Nat.{_+_, _*_, _≤_};
 ghost use lib.ListN.{length};
 ghost use Rattle.reading.specs.Check.{answer};
-ghost use Rattle.abif_file.specs.Entry.{rawEntry, entryReading, entryFound};
+ghost use Rattle.abif_file.specs.Entry.{rawEntry, entryReading};
+ghost use Rattle.abif_file.specs.Answers.{answerOfEntryFound};
 
 // A directory entry as it stands in the file, signed where the format is; C programs lend lists of these.
 #[repr(C)]
@@ -52,7 +53,7 @@ pub(crate) fn raw_entry(h: &[u8], place: u32, i: usize) -> RawEntry
 
 // Entry number `index`, from one, of the directory.
 pub fn entry(s: &[u8], index: u64) -> EntryFound
-    ensures { λ r. ⌜ entryFound r ≡ answer (entryReading index) (now (s .entry)) ⌝ }
+    ensures { λ r. ⌜ answerOfEntryFound r ≡ answer (entryReading index) (now (s .entry)) ⌝ }
 {
     match open(s) {
         Opened::Refused(n) => EntryFound::Refused(n),

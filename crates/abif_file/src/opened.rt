@@ -2,24 +2,27 @@
 use crate::list;
 use abif::directory::Opened;
 use abif::directory::open;
-use abif::element;
-use abif::element::Element;
 use abif::lookup;
-use abif::lookup::Found;
-use abif::numbers::Copied;
-use abif::text;
-use abif::text::Text;
+use abif_elements::element;
+use abif_elements::element::Element;
+use abif_elements::text;
+use abif_elements::text::Text;
+use reading::bulk::Copied;
+use reading::item::Found;
 use reading::part::part;
 ghost use mathlib.Core.Path.{_≡_};
 ghost use lib.ListN.{length};
 ghost use Rattle.reading.specs.Check.{answer, mapAnswer};
 ghost use Rattle.reading.specs.Part.{shown, handedBack};
-ghost use Rattle.abif.specs.Lookup.{lookingUp, found, dataSpan};
-ghost use Rattle.abif.specs.Element.{elementReading, element as elementAnswer};
-ghost use Rattle.abif.specs.Text.{textReading, text as textAnswer};
-ghost use Rattle.abif.specs.Numbers.{copied};
+ghost use Rattle.abif.specs.Lookup.{lookingUp};
+ghost use Rattle.reading.specs.Item.{dataSpan};
+ghost use Rattle.abif_elements.specs.Element.{elementReading};
+ghost use Rattle.abif_elements.specs.Answers.{answerOfElement, answerOfText};
+ghost use Rattle.abif_elements.specs.Text.{textReading};
+ghost use Rattle.reading.specs.Answers.{answerOfCopied, answerOfFound};
 ghost use Rattle.abif_file.specs.List.{listing};
-ghost use Rattle.abif_file.specs.Opened.{sameDirectory, ofOpened, reopened};
+ghost use Rattle.abif_file.specs.Opened.{sameDirectory, ofOpened};
+ghost use Rattle.abif_file.specs.Answers.{answerOfReopened};
 
 // The place and count are those that opening gives, or the refusal.
 pub(crate) enum Reopened {
@@ -28,7 +31,7 @@ pub(crate) enum Reopened {
 }
 
 pub(crate) fn same_directory(s: &[u8], place: u64, count: u64) -> Reopened
-    ensures { λ r. ⌜ reopened r ≡ answer (sameDirectory place count) (now (s .entry)) ⌝ }
+    ensures { λ r. ⌜ answerOfReopened r ≡ answer (sameDirectory place count) (now (s .entry)) ⌝ }
 {
     match open(s) {
         Opened::Refused(n) => Reopened::Refused(n),
@@ -46,7 +49,7 @@ pub(crate) fn same_directory(s: &[u8], place: u64, count: u64) -> Reopened
 
 // The item with the tag of this name and number, which is given by its 32 bits.
 pub fn lookup(s: &[u8], place: u64, count: u64, name: u32, number: u32) -> Found
-    ensures { λ r. ⌜ found r ≡ answer (ofOpened place count (lookingUp name number)) (now (s .entry)) ⌝ }
+    ensures { λ r. ⌜ answerOfFound r ≡ answer (ofOpened place count (lookingUp name number)) (now (s .entry)) ⌝ }
 {
     match same_directory(s, place, count) {
         Reopened::Refused(n) => Found::Refused(n),
@@ -66,7 +69,7 @@ pub fn data_part(s: &[u8], place: u64, count: u64, name: u32, number: u32) -> &[
 
 // Element number `index`, from one, of the item with this tag.
 pub fn read_element(s: &[u8], place: u64, count: u64, name: u32, number: u32, index: u64) -> Element
-    ensures { λ r. ⌜ elementAnswer r ≡ answer (ofOpened place count (elementReading name number index)) (now (s .entry)) ⌝ }
+    ensures { λ r. ⌜ answerOfElement r ≡ answer (ofOpened place count (elementReading name number index)) (now (s .entry)) ⌝ }
 {
     match same_directory(s, place, count) {
         Reopened::Refused(n) => Element::Refused(n),
@@ -76,7 +79,7 @@ pub fn read_element(s: &[u8], place: u64, count: u64, name: u32, number: u32, in
 
 // Where the text of the item with this tag stands.
 pub fn read_text(s: &[u8], place: u64, count: u64, name: u32, number: u32) -> Text
-    ensures { λ r. ⌜ textAnswer r ≡ answer (ofOpened place count (textReading name number)) (now (s .entry)) ⌝ }
+    ensures { λ r. ⌜ answerOfText r ≡ answer (ofOpened place count (textReading name number)) (now (s .entry)) ⌝ }
 {
     match same_directory(s, place, count) {
         Reopened::Refused(n) => Text::Refused(n),
@@ -96,7 +99,7 @@ pub fn text_part(s: &[u8], place: u64, count: u64, name: u32, number: u32) -> &[
 
 // What a list of this room is told.
 pub(crate) fn list_answer(s: &[u8], place: u64, count: u64, room: usize) -> Copied
-    ensures { λ r. ⌜ copied r ≡ mapAnswer length (answer (ofOpened place count (listing room)) (now (s .entry))) ⌝ }
+    ensures { λ r. ⌜ answerOfCopied r ≡ mapAnswer length (answer (ofOpened place count (listing room)) (now (s .entry))) ⌝ }
 {
     match same_directory(s, place, count) {
         Reopened::Refused(n) => Copied::Refused(n),

@@ -12,9 +12,10 @@ use Rattle.writing.proofs.Digits.{be-field}
 use Rattle.abif.specs.declared.entry.Entry.{Entry}
 use Rattle.abif.specs.Entry.{entryOf}
 use Rattle.abif_write.specs.declared.item.Item.{Item}
-use Rattle.abif_write.specs.Item.{part, Sound}
+use Rattle.abif_write.specs.Item.{bytesOf}
+use Rattle.abif_write.specs.Private.{Sound}
 use Rattle.abif_write.specs.Entry.{tagBytes, dataBytes, entryBytes, entryFor}
-use Rattle.abif_write.specs.File.{outside, apart, datas, entries, total}
+use Rattle.abif_write.specs.File.{dataOutside, sizeOutside, allData, entries, totalOutside}
 use Rattle.abif_write.proofs.entry.Laws.{length-entry}
 use Rattle.abif_write.proofs.file.Laws.{length-outside}
 
@@ -63,25 +64,25 @@ unfolding entryBytes tagBytes dataBytes digits
 inline-back u r d = drop-append-add u (entryBytes d ++ r) 20
 
 -- the entry of item j, number k of a directory, with what stands before and behind it
-pub entries-split : (g : ℕ → Item) (b : List ℕ) (p j k m i x : ℕ) → j ≡ i + k → k < m → (u : List ℕ) × (r : List ℕ) × (entries g b p m i x ≡ u ++ (entryBytes (entryFor b (g j) (p + 28 * j) (x + total g k i)) ++ r)) × (length u ≡ 28 * k)
-unfolding entries total
+pub entries-split : (g : ℕ → Item) (b : List ℕ) (p j k m i x : ℕ) → j ≡ i + k → k < m → (u : List ℕ) × (r : List ℕ) × (entries g b p m i x ≡ u ++ (entryBytes (entryFor b (g j) (p + 28 * j) (x + totalOutside g k i)) ++ r)) × (length u ≡ 28 * k)
+unfolding entries totalOutside
 entries-split g b p j k zero i x e h = absurd (omega arith)
 entries-split g b p j zero (suc m) i x e h =
     let y : i ≡ j = omega arith in
     let w : x + 0 ≡ x = omega arith in
-    ([], entries g b p m (i + 1) (x + apart (g i .size)), rw (y, w), refl)
+    ([], entries g b p m (i + 1) (x + sizeOutside (g i .size)), rw (y, w), refl)
 entries-split g b p j (suc k) (suc m) i x e h =
-    let v = entries-split g b p j k m (i + 1) (x + apart (g i .size)) (omega arith) (omega arith) in
-    let w : x + (apart (g i .size) + total g k (i + 1)) ≡ x + apart (g i .size) + total g k (i + 1) = omega arith in
+    let v = entries-split g b p j k m (i + 1) (x + sizeOutside (g i .size)) (omega arith) (omega arith) in
+    let w : x + (sizeOutside (g i .size) + totalOutside g k (i + 1)) ≡ x + sizeOutside (g i .size) + totalOutside g k (i + 1) = omega arith in
     (entryBytes (entryFor b (g i) (p + 28 * i) x) ++ v .0, v .1, rw (w, v .2) (simp append-assoc), rw (length-append, length-entry (entryFor b (g i) (p + 28 * i) x), v .3) (omega arith))
 
 -- the data of item j, number k of them, with what stands before and behind them
-pub datas-split : (g : ℕ → Item) (b : List ℕ) (j k m i : ℕ) → j ≡ i + k → ((q : ℕ) → q < i + m → Sound b (g q)) → k < m → 4 < g j .size → (u : List ℕ) × (r : List ℕ) × (datas g b m i ≡ u ++ (part b (g j) ++ r)) × (length u ≡ total g k i)
-unfolding datas total
+pub datas-split : (g : ℕ → Item) (b : List ℕ) (j k m i : ℕ) → j ≡ i + k → ((q : ℕ) → q < i + m → Sound b (g q)) → k < m → 4 < g j .size → (u : List ℕ) × (r : List ℕ) × (allData g b m i ≡ u ++ (bytesOf b (g j) ++ r)) × (length u ≡ totalOutside g k i)
+unfolding allData totalOutside
 datas-split g b j k zero i e s h l = absurd (omega arith)
 datas-split g b j zero (suc m) i e s h l =
     let y : i ≡ j = omega arith in
-    ([], datas g b m (i + 1), rw (y, lt-leb (g j .size) 4 l), refl)
+    ([], allData g b m (i + 1), rw (y, lt-leb (g j .size) 4 l), refl)
 datas-split g b j (suc k) (suc m) i e s h l =
     let v = datas-split g b j k m (i + 1) (omega arith) (λ q w. s q (omega arith)) (omega arith) l in
-    (outside b (g i) ++ v .0, v .1, rw (v .2) (simp append-assoc), rw (length-append, length-outside b (g i) (s i (omega arith) .present), v .3))
+    (dataOutside b (g i) ++ v .0, v .1, rw (v .2) (simp append-assoc), rw (length-append, length-outside b (g i) (s i (omega arith) .present), v .3))

@@ -13,6 +13,8 @@ use borrow.Author.Needs.{needs}
 use borrow.Author.Tests.{le-leb, lt-leb, eq-eqb, leb-true, leb-false}
 use Rattle.reading.specs.Choice.{pick}
 use Rattle.reading.specs.Number.{be, bits}
+use Rattle.reading.specs.Part.{bytesAt}
+use Rattle.reading.specs.Item.{dataSpan}
 use Rattle.reading.specs.Check.{ok, refused, answer, holds}
 use Rattle.reading.specs.Entries.{firstWith}
 use Rattle.reading.proofs.Entries.{first-none, first-is}
@@ -24,16 +26,17 @@ use Rattle.writing.proofs.Digits.{digits-be, be-below}
 use Rattle.abif.specs.declared.entry.Entry.{Entry}
 use Rattle.abif.specs.declared.entry.ElementType.{ElementType}
 use Rattle.abif.specs.declared.entry.ElementType.the-variants.{Listed, Raw, Unknown}
-use Rattle.abif.specs.declared.lookup.ItemData.{ItemData}
+use Rattle.reading.specs.declared.item.ItemData.{ItemData}
 use Rattle.abif.specs.Entry.{entryOf, hasTag, typeOf, sizesCheck, entryCheck}
 use Rattle.abif.specs.Directory.{Directory, directoryEnd, headerCheck, boundsCheck, directory, opening}
 use Rattle.abif.specs.Judge.{judgeEntry, judging}
 use Rattle.abif.specs.Lookup.{dataOf, lookingUp}
 use Rattle.abif.proofs.Passing.{directory-passes, opening-passes, listed-passes, raw-passes, dataEnd, entry-passes, differ, judged-new, judging-passes, lookup-finds, lookup-misses}
 use Rattle.abif_write.specs.declared.item.Item.{Item}
-use Rattle.abif_write.specs.Item.{part, isTaken, writtenSize, Sound, ordered}
+use Rattle.abif_write.specs.Item.{bytesOf, isTaken, writtenSize, ordered}
+use Rattle.abif_write.specs.Private.{Sound}
 use Rattle.abif_write.specs.Entry.{tagBytes, dataBytes, entryBytes, tdir, headerBytes, entryFor}
-use Rattle.abif_write.specs.File.{apart, datas, entries, total, directoryPlace, file}
+use Rattle.abif_write.specs.File.{sizeOutside, allData, entries, totalOutside, directoryPlace, file}
 use Rattle.abif_write.proofs.entry.Laws.{length-header}
 use Rattle.abif_write.proofs.file.Laws.{length-datas, length-file}
 use Rattle.abif_write.proofs.Order.{two-tags}
@@ -59,18 +62,18 @@ either-small false x y a b = b
 
 size-small : (k : ℕ) → writtenSize (typeOf k) < 0x8000
 unfolding typeOf writtenSize
-size-small k = search (needs, either-small) depth 12
+size-small k = search (needs, either-small) depth 24 fits 3000
 
 -- a part of bytes is bytes
-part-bytes : (b : List ℕ) (d : Item) → ((i : ℕ) → getD b i 0 < 256) → (i : ℕ) → getD (part b d) i 0 < 256
+part-bytes : (b : List ℕ) (d : Item) → ((i : ℕ) → getD b i 0 < 256) → (i : ℕ) → getD (bytesOf b d) i 0 < 256
 part-bytes b d h i = go (leb (suc i) (d .size)) refl
   where
-    go : (t : Bool) → leb (suc i) (d .size) ≡ t → getD (part b d) i 0 < 256
+    go : (t : Bool) → leb (suc i) (d .size) ≡ t → getD (bytesOf b d) i 0 < 256
     go true q = rw (getD-take (d .size) (drop (d .start) b) i 0 (leb-true (suc i) (d .size) q), getD-drop (d .start) b i 0) (h (d .start + i))
     go false q =
         let l : d .size < suc i = leb-false (suc i) (d .size) q in
-        let z : length (part b d) ≤ i = simp length-take (omega arith) in
-        rw (List·getD-eq-default (part b d) 0 z) (omega arith)
+        let z : length (bytesOf b d) ≤ i = simp length-take (omega arith) in
+        rw (List·getD-eq-default (bytesOf b d) 0 z) (omega arith)
 
 -- the sizes of an item's entry pass
 sizes-pass : (s : List ℕ) (e : Entry) (k : ElementType) (c : ℕ) → e .«element_size» < 0x8000 → e .«element_count» < 0x80000000 → e .«data_size» < 0x80000000 → isTaken k c ≡ true → e .«element_size» ≡ writtenSize k → e .«data_size» ≡ writtenSize k * e .«element_count» → answer (sizesCheck k e) s ≡ ok tt
@@ -101,7 +104,7 @@ module _ (b : List ℕ) (d : Item) (p x : ℕ) where
   unfolding entryFor
   entry-apart h = rw (lt-leb (d .size) 4 h)
 
-  entry-inline : d .size ≤ 4 → entryFor b d p x .«data_offset» ≡ be 4 (part b d) 0
+  entry-inline : d .size ≤ 4 → entryFor b d p x .«data_offset» ≡ be 4 (bytesOf b d) 0
   unfolding entryFor
   entry-inline h = rw (le-leb (d .size) 4 h)
 
@@ -113,27 +116,27 @@ module _ (b : List ℕ) (d : Item) (p x : ℕ) where
         number-fits = bits-fit 4 (d .number) (omega arith) n;
         type-fits = k;
         width-fits = omega (arith, size-small (d .«element_type»));
-        count-fits = omega (arith, s .few);
-        size-fits = omega (arith, s .small);
+        count-fits = omega (arith, s .count-fits);
+        size-fits = omega (arith, s .size-fits);
         offset-fits = go (leb (d .size) 4);
       }
     where
-      go : (t : Bool) → pick t (be 4 (part b d) 0) x < 0x100000000
-      go true = be-below 4 (part b d) 0 (part-bytes b d w)
+      go : (t : Bool) → pick t (be 4 (bytesOf b d) 0) x < 0x100000000
+      go true = be-below 4 (bytesOf b d) 0 (part-bytes b d w)
       go false = omega arith
 
   -- it passes the checks of an entry
-  entry-pass : (s : List ℕ) → Sound b d → 128 ≤ x → x < 0x80000000 → x + apart (d .size) ≤ length s → answer (entryCheck (entryFor b d p x)) s ≡ ok (dataEnd (entryFor b d p x))
+  entry-pass : (s : List ℕ) → Sound b d → 128 ≤ x → x < 0x80000000 → x + sizeOutside (d .size) ≤ length s → answer (entryCheck (entryFor b d p x)) s ≡ ok (dataEnd (entryFor b d p x))
   unfolding entryFor
   entry-pass s q l m r =
       entry-passes s (entryFor b d p x)
       (λ h. let z : entryFor b d p x .«data_offset» ≡ x = entry-apart h in
       let y : x + d .size ≤ length s = rw (lt-leb (d .size) 4 h) at r in
       (rw z l, rw z m, rw z y))
-      (sizes-pass s (entryFor b d p x) (typeOf (d .«element_type»)) (d .«element_type») (size-small (d .«element_type»)) (q .few) (q .small) (q .taken) refl (q .sized))
+      (sizes-pass s (entryFor b d p x) (typeOf (d .«element_type»)) (d .«element_type») (size-small (d .«element_type»)) (q .count-fits) (q .size-fits) (q .taken) refl (q .sized))
 
   -- its data end within what they take
-  entry-end : (y : ℕ) → x + apart (d .size) ≤ y → dataEnd (entryFor b d p x) ≤ y
+  entry-end : (y : ℕ) → x + sizeOutside (d .size) ≤ y → dataEnd (entryFor b d p x) ≤ y
   entry-end y r = rw entry-size (go (leb (d .size) 4) refl)
     where
       go : (t : Bool) → leb (d .size) 4 ≡ t → pick (leb (d .size) 4) 0 (entryFor b d p x .«data_offset» + d .size) ≤ y
@@ -184,23 +187,23 @@ module _ (n p : ℕ) (few : n ≤ 999) (least : 128 ≤ p) (short : p + 28 * n �
       subst (λ (e : Entry). answer directory s ≡ ok (record { place = e .«data_offset»; count = e .«element_count»; upTo = take (directoryEnd e) s })) d (directory-passes s (omega arith) m b q)
 
 -- the data up to an item, and its own
-total-le : (g : ℕ → Item) (j k m i : ℕ) → j ≡ i + k → k < m → total g k i + apart (g j .size) ≤ total g m i
-unfolding total
+total-le : (g : ℕ → Item) (j k m i : ℕ) → j ≡ i + k → k < m → totalOutside g k i + sizeOutside (g j .size) ≤ totalOutside g m i
+unfolding totalOutside
 total-le g j k zero i e h = absurd (omega arith)
 total-le g j zero (suc m) i e h =
     let y : i ≡ j = omega arith in
     rw y (omega arith)
 total-le g j (suc k) (suc m) i e h =
-    let v : total g k (i + 1) + apart (g j .size) ≤ total g m (i + 1) = total-le g j k m (i + 1) (omega arith) (omega arith) in
+    let v : totalOutside g k (i + 1) + sizeOutside (g j .size) ≤ totalOutside g m (i + 1) = total-le g j k m (i + 1) (omega arith) (omega arith) in
     omega arith
 
 -- what lookup of item d's tag answers in the file s
 pub record Found (s b : List ℕ) (d : Item) : Type 0 where
   pub found : ItemData
   pub answers : answer (lookingUp (d .name) (bits 4 (d .number))) s ≡ ok found
-  pub of-type : found .«element_type» ≡ d .«element_type»
+  pub of-type : found .code ≡ d .«element_type»
   pub of-count : found .count ≡ d .count
-  pub of-bytes : take (found .size) (drop (found .start) s) ≡ part b d
+  pub of-bytes : bytesAt s (dataSpan found) ≡ bytesOf b d
 
 module _ (g : ℕ → Item) (b : List ℕ) (n : ℕ) (lent : Lent g b) (checked : (k : ℕ) → k < n → Sound b (g k) × (ordered g k ≡ true)) (few : n ≤ 999) (short : length (file g b n) ≤ 0x7fffffff) where
   sound : (k : ℕ) → k < n → Sound b (g k)
@@ -214,7 +217,7 @@ module _ (g : ℕ → Item) (b : List ℕ) (n : ℕ) (lent : Lent g b) (checked 
 
   -- what stands before the directory
   before : List ℕ
-  before = headerBytes n place ++ datas g b n 0
+  before = headerBytes n place ++ allData g b n 0
 
   length-before : length before ≡ place
   unfolding before
@@ -222,16 +225,16 @@ module _ (g : ℕ → Item) (b : List ℕ) (n : ℕ) (lent : Lent g b) (checked 
 
   file-is : file g b n ≡ before ++ entries g b place n 0 128
   unfolding file before
-  file-is = sym (append-assoc (headerBytes n place) (datas g b n 0) (entries g b place n 0 128))
+  file-is = sym (append-assoc (headerBytes n place) (allData g b n 0) (entries g b place n 0 128))
 
   -- where item k's data stand, if outside its entry, and its entry
   abbrev at : ℕ → ℕ
-  at k = 128 + total g k 0
+  at k = 128 + totalOutside g k 0
 
   abbrev entry : ℕ → Entry
   entry k = entryFor b (g k) (place + 28 * k) (at k)
 
-  at-fits : (k : ℕ) → k < n → at k + apart (g k .size) ≤ place
+  at-fits : (k : ℕ) → k < n → at k + sizeOutside (g k .size) ≤ place
   at-fits k h = omega (arith, total-le g k k n 0 (omega arith) h)
 
   -- the file around entry k
@@ -262,7 +265,7 @@ module _ (g : ℕ → Item) (b : List ℕ) (n : ℕ) (lent : Lent g b) (checked 
   unfolding file
   opens =
       let l = long in
-      header-opens n place few (omega arith) (omega arith) (file g b n) (datas g b n 0 ++ entries g b place n 0 128) refl (omega arith)
+      header-opens n place few (omega arith) (omega arith) (file g b n) (allData g b n 0 ++ entries g b place n 0 128) refl (omega arith)
       ∙ rw (take-all (place + 28 * n) (file g b n) (omega arith))
 
   -- entry j's tag
@@ -321,15 +324,15 @@ module _ (g : ℕ → Item) (b : List ℕ) (n : ℕ) (lent : Lent g b) (checked 
       (first-none (hasTag (file g b n) place x y) n 0 (λ j p q. tag-of j x y (omega arith) ∙ differ (g j .name) (bits 4 (g j .number)) x y (f j (omega arith))) ∙ omega arith)
 
   -- the data found are the data given
-  part-long : (k : ℕ) → k < n → length (part b (g k)) ≡ g k .size
+  part-long : (k : ℕ) → k < n → length (bytesOf b (g k)) ≡ g k .size
   part-long k h =
       let p = sound k h .present in
       simp (length-take, length-drop) (omega arith)
 
-  data-inline : (k : ℕ) → k < n → g k .size ≤ 4 → take (g k .size) (drop (place + 28 * k + 20) (file g b n)) ≡ part b (g k)
+  data-inline : (k : ℕ) → k < n → g k .size ≤ 4 → take (g k .size) (drop (place + 28 * k + 20) (file g b n)) ≡ bytesOf b (g k)
   data-inline k h l =
       let v = around k h in
-      let q = part b (g k) in
+      let q = bytesOf b (g k) in
       let z : List ℕ = replicate (4 - length q) 0 in
       let e : digits 4 (entry k .«data_offset») ≡ q ++ z = ap (digits 4) (entry-inline b (g k) (place + 28 * k) (at k) l) ∙ digits-be 4 q (part-bytes b (g k) (lent .bytes)) (rw (part-long k h) l) in
       let y : drop (place + 28 * k + 20) (file g b n) ≡ digits 4 (entry k .«data_offset») ++ (digits 4 0 ++ v .1) =
@@ -337,22 +340,22 @@ module _ (g : ℕ → Item) (b : List ℕ) (n : ℕ) (lent : Lent g b) (checked 
       rw (y, e, append-assoc) (take-at q (z ++ (digits 4 0 ++ v .1)) (g k .size) (part-long k h))
 
   -- the file around item k's data
-  around-data : (k : ℕ) → k < n → 4 < g k .size → (u : List ℕ) × (r : List ℕ) × (file g b n ≡ u ++ (part b (g k) ++ r)) × (length u ≡ at k)
+  around-data : (k : ℕ) → k < n → 4 < g k .size → (u : List ℕ) × (r : List ℕ) × (file g b n ≡ u ++ (bytesOf b (g k) ++ r)) × (length u ≡ at k)
   unfolding file
   around-data k h l =
       let v = datas-split g b k k n 0 (omega arith) (λ q w. sound q (omega arith)) h l in
       (headerBytes n place ++ v .0, v .1 ++ entries g b place n 0 128, rw (v .2) (simp append-assoc), rw (length-append, length-header n place, v .3))
 
-  data-apart : (k : ℕ) → k < n → 4 < g k .size → take (g k .size) (drop (at k) (file g b n)) ≡ part b (g k)
+  data-apart : (k : ℕ) → k < n → 4 < g k .size → take (g k .size) (drop (at k) (file g b n)) ≡ bytesOf b (g k)
   data-apart k h l =
       let v = around-data k h l in
-      rw (v .2, drop-at (v .0) (part b (g k) ++ v .1) (at k) (v .3)) (take-at (part b (g k)) (v .1) (g k .size) (part-long k h))
+      rw (v .2, drop-at (v .0) (bytesOf b (g k) ++ v .1) (at k) (v .3)) (take-at (bytesOf b (g k)) (v .1) (g k .size) (part-long k h))
 
-  data-is : (k : ℕ) → k < n → take (dataOf (entry k) .size) (drop (dataOf (entry k) .start) (file g b n)) ≡ part b (g k)
+  data-is : (k : ℕ) → k < n → bytesAt (file g b n) (dataSpan (dataOf (entry k))) ≡ bytesOf b (g k)
   unfolding dataOf
   data-is k h = rw (entry-size b (g k) (place + 28 * k) (at k), entry-place b (g k) (place + 28 * k) (at k)) (go (leb (g k .size) 4) refl)
     where
-      go : (t : Bool) → leb (g k .size) 4 ≡ t → take (g k .size) (drop (pick (leb (g k .size) 4) (place + 28 * k + 20) (entry k .«data_offset»)) (file g b n)) ≡ part b (g k)
+      go : (t : Bool) → leb (g k .size) 4 ≡ t → take (g k .size) (drop (pick (leb (g k .size) 4) (place + 28 * k + 20) (entry k .«data_offset»)) (file g b n)) ≡ bytesOf b (g k)
       go true p = rw p (data-inline k h (leb-true (g k .size) 4 p))
       go false p =
           let l : 4 < g k .size = leb-false (g k .size) 4 p in

@@ -1,46 +1,37 @@
--- ABIF: what the contents of an item must be, by the reading calls' own rules for dates, times and texts.
+-- ABIF: what the contents of an item must be. Dates, times and texts have rules, which the reading calls share.
 use Prim.Native.Nat.{ℕ, zero, suc, _+_, _*_}
 use mathlib.Core.List.{List}
-use mathlib.Core.Bool.{Bool}
-use lib.Dec.{leb, eqb}
-use lib.ListN.{length}
+use mathlib.Core.Bool.{Bool, true, false}
+use lib.Dec.{eqb}
 use Rattle.reading.specs.Choice.{pick}
-use Rattle.reading.specs.Check.{Check, Answer, ok, refused, done, provided, _>>=_, _>>_}
-use Rattle.reading.specs.Part.{Span}
-use Rattle.abif.specs.declared.lookup.ItemData.{ItemData}
-use Rattle.abif.specs.Element.{Value, dateAt, timeAt}
-use Rattle.abif.specs.Text.{pString, cString}
+use Rattle.reading.specs.Number.{be, signed}
+use Rattle.contents.specs.Date.{isDate}
+use Rattle.contents.specs.Time.{isTime}
+use Rattle.contents.specs.Text.{isPString, isCString}
 
--- the checks alone, whatever they answer
-abbrev pub alone : {A : Type 0} → Check A → Check (Unit {0})
-alone t = t >> done tt
+-- a date stands at place p: year, month, day
+abbrev pub isDateAt : List ℕ → ℕ → Bool
+isDateAt bytes p = isDate (signed 2 (be 2 bytes p)) (be 1 bytes (p + 2)) (be 1 bytes (p + 3))
 
--- the rule holds at each of m elements of 4 bytes, from element i on
-unfoldable pub eachElement : (ℕ → Check Value) → ℕ → ℕ → Check (Unit {0})
-eachElement f zero i = done tt
-eachElement f (suc m) i = do
-  f (4 * i)
-  eachElement f m (i + 1)
+-- a time stands at place p: hour, minute, second, hundredth
+abbrev pub isTimeAt : List ℕ → ℕ → Bool
+isTimeAt bytes p = isTime (be 1 bytes p) (be 1 bytes (p + 1)) (be 1 bytes (p + 2)) (be 1 bytes (p + 3))
 
--- the bytes p as the data of an item of type k
-abbrev pub itself : ℕ → List ℕ → ItemData
-itself k p = record { start = 0; size = length p; «element_type» = k; count = length p }
+-- the rule holds at each of n elements of 4 bytes, from element i on, counted from 0
+unfoldable pub eachElement : (ℕ → Bool) → ℕ → ℕ → Bool
+eachElement rule zero i = true
+eachElement rule (suc n) i = pick (rule (4 * i)) (eachElement rule n (i + 1)) false
 
--- a text has at least one byte, and obeys its rule
-unfoldable pub textCheck : List ℕ → Check Span → Check (Unit {0})
-textCheck p rule = do
-  provided (leb 1 (length p)) 11
-  alone rule
-
--- the contents p of an item of type k with n elements: dates, times, pString and cString have rules
-unfoldable pub contentsCheck : ℕ → ℕ → List ℕ → Check (Unit {0})
-contentsCheck k n p =
-    pick (eqb k 10) (eachElement (dateAt p) n 0)
-    (pick (eqb k 11) (eachElement (timeAt p) n 0)
-    (pick (eqb k 18) (textCheck p (pString (itself k p) p))
-    (pick (eqb k 19) (textCheck p (cString (itself k p) p))
-    (done tt))))
-
--- what a test of contents answers: 11 where it fails
-abbrev pub kept : Bool → Answer (Unit {0})
-kept b = pick b (ok tt) (refused 11 0)
+-- text or date or time rules, of the bytes of an item of this type and count
+unfoldable pub contentsHold : ℕ → ℕ → List ℕ → Bool
+contentsHold code count bytes =
+    -- date
+    pick (eqb code 10) (eachElement (isDateAt bytes) count 0)
+    -- time
+    (pick (eqb code 11) (eachElement (isTimeAt bytes) count 0)
+    -- pString
+    (pick (eqb code 18) (isPString bytes)
+    -- cString
+    (pick (eqb code 19) (isCString bytes)
+    -- other types have no rule
+    true)))

@@ -3,3 +3,5 @@ pub mod Item
 pub mod Entry
 pub mod File
 pub mod Write
+pub mod Answers
+pub mod Private

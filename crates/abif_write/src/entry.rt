@@ -74,16 +74,21 @@ pub(crate) fn put_entry(out: &mut [u8], d: Entry)
     put_data_fields(out, d);
 }
 
+// The mark "ABIF", and the name "tdir" of the header's entry.
+const ABIF_MARK: u32 = 0x41424946;
+
+const TDIR_NAME: u32 = 0x74646972;
+
 // Writes the header of a file with n entries at this place.
 pub(crate) fn put_header(out: &mut [u8], n: u32, place: u32)
     requires { ⌜ (128 ≤ length (now out)) × (n ≤ 999) ⌝ }
     ensures { λ _. ⌜ now (out .exit) ≡ put (now (out .entry)) 0 (headerBytes n place) ⌝ }
 {
-    put32(out, 0, 0x41424946);
+    put32(out, 0, ABIF_MARK);
     put16(out, 4, 101);
     let d = Entry {
         place: 6,
-        name: 0x74646972,
+        name: TDIR_NAME,
         number: 1,
         element_type: 1023,
         element_size: 28,

@@ -9,12 +9,13 @@ ghost use mathlib.Core.Path.{_≡_};
 ghost use Prim.Native.Nat.{_+_, _*_, _≤_, _<_};
 ghost use lib.ListN.{length};
 ghost use Rattle.writing.specs.Put.{put};
-ghost use Rattle.abif_write.specs.Item.{given, Accepted};
-ghost use Rattle.abif_write.specs.File.{outside, apart, datas, entries, directoryPlace, file};
+ghost use Rattle.abif_write.specs.Item.{lentRecords, itemAt};
+ghost use Rattle.abif_write.specs.Private.{Accepted};
+ghost use Rattle.abif_write.specs.File.{dataOutside, sizeOutside, allData, entries, directoryPlace, file};
 
 // How many of an item's bytes stand outside its entry.
-fn apart_of(size: usize) -> usize
-    ensures { λ r. ⌜ r ≡ apart size ⌝ }
+fn size_outside(size: usize) -> usize
+    ensures { λ r. ⌜ r ≡ sizeOutside size ⌝ }
 {
     if size <= 4 {
         return 0;
@@ -32,15 +33,16 @@ pub(crate) fn directory_place(
     lengths: &[u64],
     buffer: &[u8],
 ) -> usize
-    requires { ⌜ Accepted (now names) (now numbers) (now types) (now counts) (now starts) (now lengths) (now buffer) × (length (now names) ≤ 999) ⌝ }
-    ensures { λ r. ⌜ (r ≡ directoryPlace (given (now (names .entry)) (now (numbers .entry)) (now (types .entry)) (now (counts .entry)) (now (starts .entry)) (now (lengths .entry))) (length (now (names .entry)))) × (r < 0x20000000000) ⌝ }
+    requires { ⌜ Accepted (lentRecords names numbers types counts starts lengths) (now buffer) × (length (now names) ≤ 999) ⌝ }
+    ensures { λ r. ⌜ (r ≡ directoryPlace (itemAt (lentRecords (names .entry) (numbers .entry) (types .entry) (counts .entry) (starts .entry) (lengths .entry)))
+        (length (now (names .entry)))) × (r < 0x20000000000) ⌝ }
 {
     let n = names.len();
     let mut x: usize = 128;
     let mut i = 0;
     while i < n {
         let d = item_at(names, numbers, types, counts, starts, lengths, i);
-        x += apart_of(d.size);
+        x += size_outside(d.size);
         i += 1;
     }
     x
@@ -49,7 +51,7 @@ pub(crate) fn directory_place(
 // Copies an item's data of more than 4 bytes to place p.
 fn put_data(out: &mut [u8], p: usize, buffer: &[u8], d: Item)
     requires { ⌜ (d .start + d .size ≤ length (now buffer)) × (p ≤ length (now out)) ⌝ }
-    ensures { λ _. ⌜ now (out .exit) ≡ put (now (out .entry)) p (outside (now (buffer .entry)) d) ⌝ }
+    ensures { λ _. ⌜ now (out .exit) ≡ put (now (out .entry)) p (dataOutside (now (buffer .entry)) d) ⌝ }
 {
     if d.size <= 4 {
         return;
@@ -69,9 +71,12 @@ fn put_datas(
     buffer: &[u8],
     out: &mut [u8],
 )
-    requires { ⌜ Accepted (now names) (now numbers) (now types) (now counts) (now starts) (now lengths) (now buffer) ⌝ }
-    requires { ⌜ 128 + length (datas (given (now names) (now numbers) (now types) (now counts) (now starts) (now lengths)) (now buffer) (length (now names)) 0) ≤ length (now out) ⌝ }
-    ensures { λ _. ⌜ now (out .exit) ≡ put (now (out .entry)) 128 (datas (given (now (names .entry)) (now (numbers .entry)) (now (types .entry)) (now (counts .entry)) (now (starts .entry)) (now (lengths .entry))) (now (buffer .entry)) (length (now (names .entry))) 0) ⌝ }
+    requires { ⌜ Accepted (lentRecords names numbers types counts starts lengths) (now buffer) ⌝ }
+    requires { ⌜ 128 + length (allData (itemAt (lentRecords names numbers types counts starts lengths)) (now buffer) (length (now names)) 0) ≤ length
+        (now out) ⌝ }
+    ensures { λ _. ⌜ now (out .exit) ≡ put (now (out .entry)) 128
+        (allData (itemAt (lentRecords (names .entry) (numbers .entry) (types .entry) (counts .entry) (starts .entry) (lengths .entry))) (now (buffer .entry))
+        (length (now (names .entry))) 0) ⌝ }
 {
     let n = names.len();
     let mut at = 128;
@@ -79,7 +84,7 @@ fn put_datas(
     while i < n {
         let d = item_at(names, numbers, types, counts, starts, lengths, i);
         put_data(out, at, buffer, d);
-        at += apart_of(d.size);
+        at += size_outside(d.size);
         i += 1;
     }
 }
@@ -95,10 +100,12 @@ fn put_entries(
     out: &mut [u8],
     place: usize,
 )
-    requires { ⌜ Accepted (now names) (now numbers) (now types) (now counts) (now starts) (now lengths) (now buffer) ⌝ }
+    requires { ⌜ Accepted (lentRecords names numbers types counts starts lengths) (now buffer) ⌝ }
     requires { ⌜ place + 28 * length (now names) ≤ length (now out) ⌝ }
-    requires { ⌜ directoryPlace (given (now names) (now numbers) (now types) (now counts) (now starts) (now lengths)) (length (now names)) < 0x80000000 ⌝ }
-    ensures { λ _. ⌜ now (out .exit) ≡ put (now (out .entry)) place (entries (given (now (names .entry)) (now (numbers .entry)) (now (types .entry)) (now (counts .entry)) (now (starts .entry)) (now (lengths .entry))) (now (buffer .entry)) place (length (now (names .entry))) 0 128) ⌝ }
+    requires { ⌜ directoryPlace (itemAt (lentRecords names numbers types counts starts lengths)) (length (now names)) < 0x80000000 ⌝ }
+    ensures { λ _. ⌜ now (out .exit) ≡ put (now (out .entry)) place
+        (entries (itemAt (lentRecords (names .entry) (numbers .entry) (types .entry) (counts .entry) (starts .entry) (lengths .entry)))
+        (now (buffer .entry)) place (length (now (names .entry))) 0 128) ⌝ }
 {
     let n = names.len();
     let mut x: usize = 128;
@@ -107,7 +114,7 @@ fn put_entries(
         let d = item_at(names, numbers, types, counts, starts, lengths, i);
         let e = entry_for(buffer, d, place + 28 * i, x as u32);
         put_entry(out, e);
-        x += apart_of(d.size);
+        x += size_outside(d.size);
         i += 1;
     }
 }
@@ -124,9 +131,12 @@ pub(crate) fn put_file(
     out: &mut [u8],
     place: usize,
 )
-    requires { ⌜ Accepted (now names) (now numbers) (now types) (now counts) (now starts) (now lengths) (now buffer) ⌝ }
-    requires { ⌜ (length (now names) ≤ 999) × (place ≡ directoryPlace (given (now names) (now numbers) (now types) (now counts) (now starts) (now lengths)) (length (now names))) × (place < 0x80000000) × (place + 28 * length (now names) ≤ length (now out)) ⌝ }
-    ensures { λ _. ⌜ now (out .exit) ≡ put (now (out .entry)) 0 (file (given (now (names .entry)) (now (numbers .entry)) (now (types .entry)) (now (counts .entry)) (now (starts .entry)) (now (lengths .entry))) (now (buffer .entry)) (length (now (names .entry)))) ⌝ }
+    requires { ⌜ Accepted (lentRecords names numbers types counts starts lengths) (now buffer) ⌝ }
+    requires { ⌜ (length (now names) ≤ 999) × (place ≡ directoryPlace (itemAt (lentRecords names numbers types counts starts lengths)) (length (now names)))
+        × (place < 0x80000000) × (place + 28 * length (now names) ≤ length (now out)) ⌝ }
+    ensures { λ _. ⌜ now (out .exit) ≡ put (now (out .entry)) 0
+        (file (itemAt (lentRecords (names .entry) (numbers .entry) (types .entry) (counts .entry) (starts .entry) (lengths .entry))) (now (buffer .entry))
+        (length (now (names .entry)))) ⌝ }
 {
     put_header(out, names.len() as u32, place as u32);
     put_datas(names, numbers, types, counts, starts, lengths, buffer, out);

@@ -9,7 +9,9 @@ ghost use Prim.Native.Nat.{_<_};
 ghost use lib.ListN.{length};
 ghost use Rattle.reading.specs.Check.{answer};
 ghost use Rattle.abif.specs.Entry.{typeOf};
-ghost use Rattle.abif_write.specs.Item.{given, SameLengths, isTaken, writtenSize, countCheck, itemCheck, tagBelow, ordered, itemsCheck, passing};
+ghost use Rattle.abif_write.specs.Item.{lentRecords, itemAt, isTaken, writtenSize, countCheck, itemCheck, tagBelow, ordered, itemsCheck};
+ghost use Rattle.abif_write.specs.Private.{SameLengths};
+ghost use Rattle.abif_write.specs.Answers.{answerOfPassing};
 
 // An item: its tag, its type by its 16 bits, its count, and its part of the data.
 pub(crate) struct Item {
@@ -37,8 +39,8 @@ pub(crate) fn item_at(
     lengths: &[u64],
     i: usize,
 ) -> Item
-    requires { ⌜ SameLengths (now names) (now numbers) (now types) (now counts) (now starts) (now lengths) × (i < length (now names)) ⌝ }
-    ensures { λ r. ⌜ r ≡ given (now (names .entry)) (now (numbers .entry)) (now (types .entry)) (now (counts .entry)) (now (starts .entry)) (now (lengths .entry)) i ⌝ }
+    requires { ⌜ SameLengths (lentRecords names numbers types counts starts lengths) × (i < length (now names)) ⌝ }
+    ensures { λ r. ⌜ r ≡ itemAt (lentRecords (names .entry) (numbers .entry) (types .entry) (counts .entry) (starts .entry) (lengths .entry)) i ⌝ }
 {
     Item {
         name: names[i],
@@ -73,7 +75,7 @@ pub(crate) fn written_size(code: u16) -> u16
 }
 
 fn count_tests(d: Item) -> Passing
-    ensures { λ r. ⌜ passing r ≡ answer (countCheck d) [] ⌝ }
+    ensures { λ r. ⌜ answerOfPassing r ≡ answer (countCheck d) [] ⌝ }
 {
     if 0x8000_0000 <= d.count {
         return Passing::Fail(9);
@@ -89,7 +91,7 @@ fn count_tests(d: Item) -> Passing
 }
 
 fn item_tests(buffer: &[u8], d: Item) -> Passing
-    ensures { λ r. ⌜ passing r ≡ answer (itemCheck (now (buffer .entry)) d) [] ⌝ }
+    ensures { λ r. ⌜ answerOfPassing r ≡ answer (itemCheck (now (buffer .entry)) d) [] ⌝ }
 {
     if buffer.len() < d.start {
         return Passing::Fail(9);
@@ -130,8 +132,8 @@ fn in_order(
     lengths: &[u64],
     i: usize,
 ) -> bool
-    requires { ⌜ SameLengths (now names) (now numbers) (now types) (now counts) (now starts) (now lengths) × (i < length (now names)) ⌝ }
-    ensures { λ r. ⌜ r ≡ ordered (given (now (names .entry)) (now (numbers .entry)) (now (types .entry)) (now (counts .entry)) (now (starts .entry)) (now (lengths .entry))) i ⌝ }
+    requires { ⌜ SameLengths (lentRecords names numbers types counts starts lengths) × (i < length (now names)) ⌝ }
+    ensures { λ r. ⌜ r ≡ ordered (itemAt (lentRecords (names .entry) (numbers .entry) (types .entry) (counts .entry) (starts .entry) (lengths .entry))) i ⌝ }
 {
     if i == 0 {
         return true;
@@ -150,8 +152,10 @@ pub(crate) fn items_tests(
     lengths: &[u64],
     buffer: &[u8],
 ) -> Passing
-    requires { ⌜ SameLengths (now names) (now numbers) (now types) (now counts) (now starts) (now lengths) ⌝ }
-    ensures { λ r. ⌜ passing r ≡ answer (itemsCheck (given (now (names .entry)) (now (numbers .entry)) (now (types .entry)) (now (counts .entry)) (now (starts .entry)) (now (lengths .entry))) (now (buffer .entry)) (length (now (names .entry))) 0) [] ⌝ }
+    requires { ⌜ SameLengths (lentRecords names numbers types counts starts lengths) ⌝ }
+    ensures { λ r. ⌜ answerOfPassing r ≡ answer
+        (itemsCheck (itemAt (lentRecords (names .entry) (numbers .entry) (types .entry) (counts .entry) (starts .entry) (lengths .entry)))
+        (now (buffer .entry)) (length (now (names .entry))) 0) [] ⌝ }
 {
     let n = names.len();
     let mut i = 0;

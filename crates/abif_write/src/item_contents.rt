@@ -1,65 +1,44 @@
 // What the contents of an item must be. Only dates, times and texts have rules.
-use contents::text::has_zero;
+use contents::date::date_holds;
+use contents::text::c_string_holds;
+use contents::text::p_string_holds;
+use contents::time::time_holds;
+use reading::number::be16;
 use reading::number::byte;
+use reading::number::signed16;
 ghost use mathlib.Core.Path.{_≡_};
-ghost use mathlib.Core.List.{[]};
 ghost use Prim.Native.Nat.{_<_};
-ghost use Rattle.reading.specs.Check.{answer};
-ghost use Rattle.abif.specs.Element.{dateAt, timeAt};
-ghost use Rattle.abif.specs.Text.{pString, cString};
-ghost use Rattle.abif_write.specs.ItemContents.{alone, eachElement, itself, textCheck, contentsCheck, kept};
+ghost use Rattle.abif_write.specs.ItemContents.{isDateAt, isTimeAt, eachElement, contentsHold};
 
-fn date_holds(p: &[u8], place: usize) -> bool
+// A date stands at this place.
+fn date_at_holds(bytes: &[u8], place: usize) -> bool
     requires { ⌜ place < 0x8000000000000000 ⌝ }
-    ensures { λ r. ⌜ kept r ≡ answer (alone (dateAt (now (p .entry)) place)) [] ⌝ }
+    ensures { λ r. ⌜ r ≡ isDateAt (now (bytes .entry)) place ⌝ }
 {
-    let month = byte(p, place + 2);
-    let day = byte(p, place + 3);
-    if month < 1 {
-        return false;
-    }
-    if 12 < month {
-        return false;
-    }
-    if day < 1 {
-        return false;
-    }
-    if 31 < day {
-        return false;
-    }
-    true
+    let year = signed16(be16(bytes, place));
+    date_holds(year, byte(bytes, place + 2), byte(bytes, place + 3))
 }
 
-fn time_holds(p: &[u8], place: usize) -> bool
+// A time stands at this place.
+fn time_at_holds(bytes: &[u8], place: usize) -> bool
     requires { ⌜ place < 0x8000000000000000 ⌝ }
-    ensures { λ r. ⌜ kept r ≡ answer (alone (timeAt (now (p .entry)) place)) [] ⌝ }
+    ensures { λ r. ⌜ r ≡ isTimeAt (now (bytes .entry)) place ⌝ }
 {
-    let hour = byte(p, place);
-    let minute = byte(p, place + 1);
-    let second = byte(p, place + 2);
-    let hundredth = byte(p, place + 3);
-    if 23 < hour {
-        return false;
-    }
-    if 59 < minute {
-        return false;
-    }
-    if 59 < second {
-        return false;
-    }
-    if 99 < hundredth {
-        return false;
-    }
-    true
+    time_holds(
+        byte(bytes, place),
+        byte(bytes, place + 1),
+        byte(bytes, place + 2),
+        byte(bytes, place + 3),
+    )
 }
 
-fn dates_hold(p: &[u8], n: usize) -> bool
+fn dates_hold(bytes: &[u8], n: usize) -> bool
     requires { ⌜ n < 0x80000000 ⌝ }
-    ensures { λ r. ⌜ kept r ≡ answer (eachElement (dateAt (now (p .entry))) n 0) [] ⌝ }
+    ensures { λ r. ⌜ r ≡ eachElement (isDateAt (now (bytes .entry))) n 0 ⌝ }
 {
     let mut i = 0;
     while i < n {
-        let holds = date_holds(p, 4 * i);
+        let holds = date_at_holds(bytes, 4 * i);
         if holds {
             i += 1;
         } else {
@@ -69,13 +48,13 @@ fn dates_hold(p: &[u8], n: usize) -> bool
     true
 }
 
-fn times_hold(p: &[u8], n: usize) -> bool
+fn times_hold(bytes: &[u8], n: usize) -> bool
     requires { ⌜ n < 0x80000000 ⌝ }
-    ensures { λ r. ⌜ kept r ≡ answer (eachElement (timeAt (now (p .entry))) n 0) [] ⌝ }
+    ensures { λ r. ⌜ r ≡ eachElement (isTimeAt (now (bytes .entry))) n 0 ⌝ }
 {
     let mut i = 0;
     while i < n {
-        let holds = time_holds(p, 4 * i);
+        let holds = time_at_holds(bytes, 4 * i);
         if holds {
             i += 1;
         } else {
@@ -85,45 +64,16 @@ fn times_hold(p: &[u8], n: usize) -> bool
     true
 }
 
-fn p_string_holds(p: &[u8]) -> bool
-    ensures { λ r. ⌜ kept r ≡ answer (textCheck (now (p .entry)) (pString (itself 18 (now (p .entry))) (now (p .entry)))) [] ⌝ }
-{
-    if p.len() < 1 {
-        return false;
-    }
-    if byte(p, 0) as usize != p.len() - 1 {
-        return false;
-    }
-    true
-}
-
-fn c_string_holds(p: &[u8]) -> bool
-    ensures { λ r. ⌜ kept r ≡ answer (textCheck (now (p .entry)) (cString (itself 19 (now (p .entry))) (now (p .entry)))) [] ⌝ }
-{
-    if p.len() < 1 {
-        return false;
-    }
-    let n = p.len() - 1;
-    if byte(p, n) != 0 {
-        return false;
-    }
-    let inner = has_zero(&p[..n]);
-    if inner {
-        return false;
-    }
-    true
-}
-
-// The contents p of an item of this type, with this many elements, keep the type's rule.
-pub(crate) fn contents_hold(code: u16, count: u32, p: &[u8]) -> bool
+// The bytes of an item of this type, with this many elements, keep the type's rule.
+pub(crate) fn contents_hold(code: u16, count: u32, bytes: &[u8]) -> bool
     requires { ⌜ count < 0x80000000 ⌝ }
-    ensures { λ r. ⌜ kept r ≡ answer (contentsCheck code count (now (p .entry))) [] ⌝ }
+    ensures { λ r. ⌜ r ≡ contentsHold code count (now (bytes .entry)) ⌝ }
 {
     match code {
-        10 => dates_hold(p, count as usize),
-        11 => times_hold(p, count as usize),
-        18 => p_string_holds(p),
-        19 => c_string_holds(p),
+        10 => dates_hold(bytes, count as usize),
+        11 => times_hold(bytes, count as usize),
+        18 => p_string_holds(bytes),
+        19 => c_string_holds(bytes),
         _ => true,
     }
 }

@@ -9,8 +9,9 @@ ghost use mathlib.Core.List.{[]};
 ghost use lib.ListN.{length};
 ghost use Rattle.reading.specs.Check.{answer, mapAnswer};
 ghost use Rattle.reading.specs.Lent.{filled};
-ghost use Rattle.writing.specs.Answer.{written};
-ghost use Rattle.abif_write.specs.Item.{given, sameLengths, Accepted};
+ghost use Rattle.writing.specs.Answers.{answerOfWritten};
+ghost use Rattle.abif_write.specs.Item.{lentRecords, itemAt, sameLengths};
+ghost use Rattle.abif_write.specs.Private.{Accepted};
 ghost use Rattle.abif_write.specs.File.{fileCheck};
 ghost use Rattle.abif_write.specs.Write.{writing};
 
@@ -22,7 +23,7 @@ fn same_lengths(
     starts: &[u64],
     lengths: &[u64],
 ) -> bool
-    ensures { λ r. ⌜ r ≡ sameLengths (now (names .entry)) (now (numbers .entry)) (now (types .entry)) (now (counts .entry)) (now (starts .entry)) (now (lengths .entry)) ⌝ }
+    ensures { λ r. ⌜ r ≡ sameLengths (lentRecords (names .entry) (numbers .entry) (types .entry) (counts .entry) (starts .entry) (lengths .entry)) ⌝ }
 {
     let n = names.len();
     if numbers.len() != n {
@@ -51,9 +52,13 @@ fn write_accepted(
     buffer: &[u8],
     out: &mut [u8],
 ) -> Written
-    requires { ⌜ Accepted (now names) (now numbers) (now types) (now counts) (now starts) (now lengths) (now buffer) ⌝ }
-    ensures { λ r. ⌜ written r ≡ mapAnswer length (answer (fileCheck (given (now (names .entry)) (now (numbers .entry)) (now (types .entry)) (now (counts .entry)) (now (starts .entry)) (now (lengths .entry))) (now (buffer .entry)) (length (now (names .entry))) (length (now (out .entry)))) []) ⌝ }
-    ensures { λ _. ⌜ now (out .exit) ≡ filled (answer (fileCheck (given (now (names .entry)) (now (numbers .entry)) (now (types .entry)) (now (counts .entry)) (now (starts .entry)) (now (lengths .entry))) (now (buffer .entry)) (length (now (names .entry))) (length (now (out .entry)))) []) (now (out .entry)) ⌝ }
+    requires { ⌜ Accepted (lentRecords names numbers types counts starts lengths) (now buffer) ⌝ }
+    ensures { λ r. ⌜ answerOfWritten r ≡ mapAnswer length
+        (answer (fileCheck (itemAt (lentRecords (names .entry) (numbers .entry) (types .entry) (counts .entry) (starts .entry) (lengths .entry)))
+        (now (buffer .entry)) (length (now (names .entry))) (length (now (out .entry)))) []) ⌝ }
+    ensures { λ _. ⌜ now (out .exit) ≡ filled
+        (answer (fileCheck (itemAt (lentRecords (names .entry) (numbers .entry) (types .entry) (counts .entry) (starts .entry) (lengths .entry)))
+        (now (buffer .entry)) (length (now (names .entry))) (length (now (out .entry)))) []) (now (out .entry)) ⌝ }
 {
     let n = names.len();
     if 999 < n {
@@ -93,8 +98,12 @@ pub fn write(
     buffer: &[u8],
     out: &mut [u8],
 ) -> Written
-    ensures { λ r. ⌜ written r ≡ mapAnswer length (answer (writing (now (names .entry)) (now (numbers .entry)) (now (types .entry)) (now (counts .entry)) (now (starts .entry)) (now (lengths .entry)) (now (buffer .entry)) (length (now (out .entry)))) []) ⌝ }
-    ensures { λ _. ⌜ now (out .exit) ≡ filled (answer (writing (now (names .entry)) (now (numbers .entry)) (now (types .entry)) (now (counts .entry)) (now (starts .entry)) (now (lengths .entry)) (now (buffer .entry)) (length (now (out .entry)))) []) (now (out .entry)) ⌝ }
+    ensures { λ r. ⌜ answerOfWritten r ≡ mapAnswer length
+        (answer (writing (lentRecords (names .entry) (numbers .entry) (types .entry) (counts .entry) (starts .entry) (lengths .entry)) (now (buffer .entry))
+        (length (now (out .entry)))) []) ⌝ }
+    ensures { λ _. ⌜ now (out .exit) ≡ filled
+        (answer (writing (lentRecords (names .entry) (numbers .entry) (types .entry) (counts .entry) (starts .entry) (lengths .entry)) (now (buffer .entry))
+        (length (now (out .entry)))) []) (now (out .entry)) ⌝ }
 {
     if !same_lengths(names, numbers, types, counts, starts, lengths) {
         return Written::Refused(9);

@@ -4,6 +4,8 @@ use lib.Ieee.{Float, binary32, binary64, ofBits}
 use Rattle.reading.specs.Check.{Answer, ok, refused}
 use Rattle.reading.specs.Part.{Span}
 use Rattle.capi.specs.declared.answers.Verdict.{Verdict}
+use Rattle.reading.specs.declared.item.ItemData.{ItemData}
+use Rattle.capi.specs.declared.answers.Item.{Item}
 use Rattle.capi.specs.declared.answers.Part.{Part}
 use Rattle.capi.specs.declared.answers.Listed.{Listed}
 use Rattle.capi.specs.declared.answers.Written.{Written}
@@ -13,6 +15,12 @@ abbrev pub asVerdict : Answer ℕ → Verdict
 asVerdict (ok x) = record { refusal = 0; entry = 0; extent = x; unjudged = 0 }
 asVerdict (refused n e) = record { refusal = n; entry = e; extent = 0; unjudged = 0 }
 
+-- the item that lookup finds
+abbrev pub asItem : Answer ItemData → Item
+asItem (ok q) = record { refusal = 0; code = q .code; count = q .count; start = q .start; length = q .size }
+asItem (refused n e) = record { refusal = n; code = 0; count = 0; start = 0; length = 0 }
+
+-- where a part of the caller's bytes stands
 abbrev pub asPart : Answer Span → Part
 asPart (ok q) = record { refusal = 0; start = q .start; length = q .size }
 asPart (refused n e) = record { refusal = n; start = 0; length = 0 }

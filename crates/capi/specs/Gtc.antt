@@ -2,14 +2,12 @@
 use Prim.Native.Nat.{ℕ}
 use lib.IntN.{pos}
 use Rattle.reading.specs.Check.{Answer, ok, refused}
-use Rattle.gtc.specs.declared.item.ItemData.{ItemData}
-use Rattle.gtc.specs.declared.snp.Snp as snp
-use Rattle.gtc.specs.declared.transformation.Transformation.{Transformation}
+use Rattle.gtc_records.specs.declared.snp.Snp as snp
+use Rattle.gtc_records.specs.declared.transformation.Transformation.{Transformation}
 use Rattle.gtc.specs.Judge.{Extent}
-use Rattle.gtc.specs.Genotype.{ploidy, bAlleles}
-use Rattle.gtc.specs.Transformation.{Transformed}
+use Rattle.gtc_records.specs.Genotype.{ploidy, bAlleles}
+use Rattle.gtc_records.specs.Transformation.{Transformed}
 use Rattle.capi.specs.declared.answers.Verdict.{Verdict}
-use Rattle.capi.specs.declared.answers.Item.{Item}
 use Rattle.capi.specs.declared.answers.Snp.{Snp}
 use Rattle.capi.specs.declared.answers.TransformationAnswer.{TransformationAnswer}
 use Rattle.capi.specs.Answers.{zero32}
@@ -19,12 +17,9 @@ abbrev pub asJudged : Answer Extent → Verdict
 asJudged (ok x) = record { refusal = 0; entry = 0; extent = x .extent; unjudged = x .unjudged }
 asJudged (refused n e) = record { refusal = n; entry = e; extent = 0; unjudged = 0 }
 
-abbrev pub asItem : Answer ItemData → Item
-asItem (ok q) = record { refusal = 0; code = q .id; count = q .count; start = q .start; length = q .size }
-asItem (refused n e) = record { refusal = n; code = 0; count = 0; start = 0; length = 0 }
-
-abbrev pub toldSnp : snp.Snp → Snp
-toldSnp r =
+-- a SNP's record
+abbrev pub snpStruct : snp.Snp → Snp
+snpStruct r =
     record {
       refusal = 0;
       code = r .code;
@@ -41,7 +36,7 @@ abbrev pub refusedSnp : ℕ → Snp
 refusedSnp n = record { refusal = n; code = 0; ploidy = 0; «b_alleles» = 0; «call_1» = 0; «call_2» = 0; «score_bits» = 0; x = 0; y = 0 }
 
 abbrev pub asSnp : Answer snp.Snp → Snp
-asSnp (ok r) = toldSnp r
+asSnp (ok r) = snpStruct r
 asSnp (refused n e) = refusedSnp n
 
 -- the transformation of a refusal

@@ -1,20 +1,43 @@
 -- The struct that each answer of an SFF call is for a C program.
 use Prim.Native.Nat.{ℕ, _+_}
 use Rattle.reading.specs.Check.{Answer, ok, refused}
-use Rattle.sff.specs.declared.position.FlowPosition.{FlowPosition}
-use Rattle.sff.specs.declared.header.Header.{Header}
-use Rattle.sff.specs.declared.lookup.Read.{Read}
+use Rattle.sff_fields.specs.declared.position.FlowPosition.{FlowPosition}
+use Rattle.sff_fields.specs.declared.header.Header.{Header}
+use Rattle.sff_fields.specs.declared.parts.Read.{Read}
 use Rattle.capi.specs.declared.answers.SffHeader.{SffHeader}
 use Rattle.capi.specs.declared.answers.SffRead.{SffRead}
 use Rattle.capi.specs.declared.answers.Flow.{Flow}
 
 -- the flow letters start behind the fields, and the key behind the letters
 abbrev pub asHeader : Answer Header → SffHeader
-asHeader (ok d) = record { refusal = 0; «index_offset» = d .«index_offset»; «index_length» = d .«index_length»; reads = d .reads; «header_length» = d .«header_length»; «key_length» = d .«key_length»; flows = d .flows; «flow_letters_start» = 31; «key_start» = 31 + d .flows }
-asHeader (refused n e) = record { refusal = n; «index_offset» = 0; «index_length» = 0; reads = 0; «header_length» = 0; «key_length» = 0; flows = 0; «flow_letters_start» = 0; «key_start» = 0 }
+asHeader (ok d) =
+    record {
+      refusal = 0;
+      «index_offset» = d .«index_offset»;
+      «index_length» = d .«index_length»;
+      reads = d .reads;
+      «header_length» = d .«header_length»;
+      «key_length» = d .«key_length»;
+      flows = d .flows;
+      «flow_letters_start» = 31;
+      «key_start» = 31 + d .flows;
+    }
+asHeader (refused n e) =
+    record {
+      refusal = n;
+      «index_offset» = 0;
+      «index_length» = 0;
+      reads = 0;
+      «header_length» = 0;
+      «key_length» = 0;
+      flows = 0;
+      «flow_letters_start» = 0;
+      «key_start» = 0;
+    }
 
-abbrev pub toldRead : Read → SffRead
-toldRead r =
+-- all that is answered of a read
+abbrev pub readStruct : Read → SffRead
+readStruct r =
     record {
       refusal = 0;
       start = r .start;
@@ -58,7 +81,7 @@ refusedRead n =
     }
 
 abbrev pub asRead : Answer Read → SffRead
-asRead (ok r) = toldRead r
+asRead (ok r) = readStruct r
 asRead (refused n e) = refusedRead n
 
 abbrev pub asFlow : Answer FlowPosition → Flow

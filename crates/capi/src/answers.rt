@@ -1,5 +1,13 @@
 // The answers that C programs get. `refusal` is 0 for an answer, else the refusal's number, and then every other field is 0, but for a verdict's entry.
-use gtc::transformation::Transformation;
+use gtc_records::transformation::Transformation;
+use reading::bulk;
+use reading::item;
+use reading::verdict;
+use writing::answer;
+ghost use mathlib.Core.Path.{_≡_};
+ghost use Rattle.reading.specs.Answers.{answerOfVerdict, answerOfFound, answerOfCopied};
+ghost use Rattle.writing.specs.Answers.{answerOfWritten};
+ghost use Rattle.capi.specs.Answers.{asVerdict, asItem, asListed, asWritten};
 
 // What judging finds; `unjudged` counts a GTC file's entries that are not judged.
 #[repr(C)]
@@ -141,4 +149,75 @@ pub struct TransformationAnswer {
     pub refusal: u64,
     pub start: u64,
     pub value: Transformation,
+}
+
+// The verdict on a file of a format that has no unjudged entries.
+pub(crate) fn as_verdict(v: verdict::Verdict) -> Verdict
+    ensures { λ r. ⌜ r ≡ asVerdict (answerOfVerdict v) ⌝ }
+{
+    match v {
+        verdict::Verdict::Whole(x) => Verdict {
+            refusal: 0,
+            entry: 0,
+            extent: x as u64,
+            unjudged: 0,
+        },
+        verdict::Verdict::Refused { number, entry } => Verdict {
+            refusal: number as u64,
+            entry: entry as u64,
+            extent: 0,
+            unjudged: 0,
+        },
+    }
+}
+
+// The item that lookup finds.
+pub(crate) fn as_item(f: item::Found) -> Item
+    ensures { λ r. ⌜ r ≡ asItem (answerOfFound f) ⌝ }
+{
+    match f {
+        item::Found::Data(q) => Item {
+            refusal: 0,
+            code: q.code as u64,
+            count: q.count as u64,
+            start: q.start as u64,
+            length: q.size as u64,
+        },
+        item::Found::Refused(n) => Item {
+            refusal: n as u64,
+            code: 0,
+            count: 0,
+            start: 0,
+            length: 0,
+        },
+    }
+}
+
+// How many items a call has put into a lent list.
+pub(crate) fn as_listed(n: bulk::Copied) -> Listed
+    ensures { λ r. ⌜ r ≡ asListed (answerOfCopied n) ⌝ }
+{
+    match n {
+        bulk::Copied::Count(count) => Listed { refusal: 0, count },
+        bulk::Copied::Refused(number) => Listed {
+            refusal: number as u64,
+            count: 0,
+        },
+    }
+}
+
+// The length of a file that a call has written.
+pub(crate) fn as_written(a: answer::Written) -> Written
+    ensures { λ r. ⌜ r ≡ asWritten (answerOfWritten a) ⌝ }
+{
+    match a {
+        answer::Written::Length(n) => Written {
+            refusal: 0,
+            length: n as u64,
+        },
+        answer::Written::Refused(n) => Written {
+            refusal: n as u64,
+            length: 0,
+        },
+    }
 }

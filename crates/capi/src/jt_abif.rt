@@ -5,46 +5,33 @@ use crate::answers::Listed;
 use crate::answers::Opened;
 use crate::answers::Part;
 use crate::answers::Verdict;
+use crate::answers::as_item;
+use crate::answers::as_listed;
+use crate::answers::as_verdict;
 use abif::directory;
-use abif::element;
 use abif::judge;
 use abif::lookup;
-use abif::numbers;
-use abif::text;
+use abif_elements::element;
+use abif_elements::numbers;
+use abif_elements::text;
 use reading::number::bits32;
 ghost use mathlib.Core.Path.{_≡_};
 ghost use lib.ListN.{length};
 ghost use Rattle.reading.specs.Number.{bits};
 ghost use Rattle.reading.specs.Check.{answer, mapAnswer};
-ghost use Rattle.abif.specs.Directory.{opening, opened};
-ghost use Rattle.abif.specs.Judge.{judging, verdict};
-ghost use Rattle.abif.specs.Lookup.{lookingUp, found};
-ghost use Rattle.abif.specs.Element.{elementReading, element as elementAnswer};
-ghost use Rattle.abif.specs.Text.{textReading, text as textAnswer};
+ghost use Rattle.abif.specs.Directory.{opening};
+ghost use Rattle.abif.specs.Answers.{answerOfOpened};
+ghost use Rattle.abif.specs.Judge.{judging};
+ghost use Rattle.abif.specs.Lookup.{lookingUp};
+ghost use Rattle.abif_elements.specs.Element.{elementReading};
+ghost use Rattle.abif_elements.specs.Answers.{answerOfElement, answerOfText};
+ghost use Rattle.abif_elements.specs.Text.{textReading};
 ghost use Rattle.reading.specs.Lent.{filled};
-ghost use Rattle.abif.specs.Numbers.{numbersReading, copied};
-ghost use Rattle.capi.specs.Answers.{asVerdict, asPart, asListed};
-ghost use Rattle.capi.specs.Abif.{asOpened, asItem, asElement, numberElement, fieldsElement, singleElement, doubleElement, refusedElement};
+ghost use Rattle.abif_elements.specs.Numbers.{numbersReading};
+ghost use Rattle.capi.specs.Answers.{asVerdict, asItem, asPart, asListed};
+ghost use Rattle.capi.specs.Abif.{asOpened, asElement, numberElement, fieldsElement, singleElement, doubleElement, refusedElement};
 
-fn as_verdict(v: judge::Verdict) -> Verdict
-    ensures { λ r. ⌜ r ≡ asVerdict (verdict v) ⌝ }
-{
-    match v {
-        judge::Verdict::Whole(x) => Verdict {
-            refusal: 0,
-            entry: 0,
-            extent: x as u64,
-            unjudged: 0,
-        },
-        judge::Verdict::Refused { number, entry } => Verdict {
-            refusal: number as u64,
-            entry: entry as u64,
-            extent: 0,
-            unjudged: 0,
-        },
-    }
-}
-
+// Whether the bytes are a whole ABIF file, with its extent.
 #[no_mangle]
 pub extern "C" fn jt_abif_judge(s: &[u8]) -> Verdict
     ensures { λ r. ⌜ r ≡ asVerdict (answer judging (now (s .entry))) ⌝ }
@@ -53,7 +40,7 @@ pub extern "C" fn jt_abif_judge(s: &[u8]) -> Verdict
 }
 
 fn as_opened(o: directory::Opened) -> Opened
-    ensures { λ r. ⌜ r ≡ asOpened (opened o) ⌝ }
+    ensures { λ r. ⌜ r ≡ asOpened (answerOfOpened o) ⌝ }
 {
     match o {
         directory::Opened::At { place, count } => Opened {
@@ -69,6 +56,7 @@ fn as_opened(o: directory::Opened) -> Opened
     }
 }
 
+// The place and the count of the directory.
 #[no_mangle]
 pub extern "C" fn jt_abif_open(s: &[u8]) -> Opened
     ensures { λ r. ⌜ r ≡ asOpened (answer opening (now (s .entry))) ⌝ }
@@ -76,27 +64,7 @@ pub extern "C" fn jt_abif_open(s: &[u8]) -> Opened
     as_opened(directory::open(s))
 }
 
-pub(crate) fn as_item(f: lookup::Found) -> Item
-    ensures { λ r. ⌜ r ≡ asItem (found f) ⌝ }
-{
-    match f {
-        lookup::Found::Data(q) => Item {
-            refusal: 0,
-            code: q.element_type as u64,
-            count: q.count as u64,
-            start: q.start as u64,
-            length: q.size as u64,
-        },
-        lookup::Found::Refused(n) => Item {
-            refusal: n as u64,
-            code: 0,
-            count: 0,
-            start: 0,
-            length: 0,
-        },
-    }
-}
-
+// The item with the tag of this name and number.
 #[no_mangle]
 pub extern "C" fn jt_abif_lookup(s: &[u8], name: u32, number: i32) -> Item
     ensures { λ r. ⌜ r ≡ asItem (answer (lookingUp name (bits 4 number)) (now (s .entry))) ⌝ }
@@ -198,7 +166,7 @@ fn refused_element(refusal: u8) -> Element
 }
 
 pub(crate) fn as_element(e: element::Element) -> Element
-    ensures { λ r. ⌜ r ≡ asElement (elementAnswer e) ⌝ }
+    ensures { λ r. ⌜ r ≡ asElement (answerOfElement e) ⌝ }
 {
     match e {
         element::Element::Whole(n) => number_element(1, n),
@@ -234,6 +202,7 @@ pub(crate) fn as_element(e: element::Element) -> Element
     }
 }
 
+// Element number `index`, from one, of the item with this tag.
 #[no_mangle]
 pub extern "C" fn jt_abif_element(s: &[u8], name: u32, number: i32, index: u64) -> Element
     ensures { λ r. ⌜ r ≡ asElement (answer (elementReading name (bits 4 number) index) (now (s .entry))) ⌝ }
@@ -243,7 +212,7 @@ pub extern "C" fn jt_abif_element(s: &[u8], name: u32, number: i32, index: u64) 
 }
 
 pub(crate) fn as_part(t: text::Text) -> Part
-    ensures { λ r. ⌜ r ≡ asPart (textAnswer t) ⌝ }
+    ensures { λ r. ⌜ r ≡ asPart (answerOfText t) ⌝ }
 {
     match t {
         text::Text::At { start, length } => Part {
@@ -259,6 +228,7 @@ pub(crate) fn as_part(t: text::Text) -> Part
     }
 }
 
+// Where the text of the item with this tag stands.
 #[no_mangle]
 pub extern "C" fn jt_abif_text(s: &[u8], name: u32, number: i32) -> Part
     ensures { λ r. ⌜ r ≡ asPart (answer (textReading name (bits 4 number)) (now (s .entry))) ⌝ }
@@ -267,18 +237,7 @@ pub extern "C" fn jt_abif_text(s: &[u8], name: u32, number: i32) -> Part
     as_part(text::read_text(s, name, bits))
 }
 
-pub(crate) fn as_listed(n: numbers::Copied) -> Listed
-    ensures { λ r. ⌜ r ≡ asListed (copied n) ⌝ }
-{
-    match n {
-        numbers::Copied::Count(count) => Listed { refusal: 0, count },
-        numbers::Copied::Refused(number) => Listed {
-            refusal: number as u64,
-            count: 0,
-        },
-    }
-}
-
+// The whole numbers of the item with this tag, from element `first` on, at the front of the lent list.
 #[no_mangle]
 pub extern "C" fn jt_abif_whole_numbers(
     s: &[u8],

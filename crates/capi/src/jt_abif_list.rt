@@ -1,6 +1,6 @@
 // The ABIF calls that list the directory into a list of records, lent by the caller.
 use crate::answers::Listed;
-use crate::jt_abif::as_listed;
+use crate::answers::as_listed;
 use abif_file::entry::RawEntry;
 use abif_file::file;
 use abif_file::file::AbifFile;

@@ -2,8 +2,8 @@
 use crate::answers::Element;
 use crate::answers::Item;
 use crate::answers::Part;
+use crate::answers::as_item;
 use crate::jt_abif::as_element;
-use crate::jt_abif::as_item;
 use crate::jt_abif::as_part;
 use abif_file::opened;
 use reading::number::bits32;
@@ -11,12 +11,13 @@ ghost use mathlib.Core.Path.{_≡_};
 ghost use Rattle.reading.specs.Number.{bits};
 ghost use Rattle.reading.specs.Check.{answer};
 ghost use Rattle.abif.specs.Lookup.{lookingUp};
-ghost use Rattle.abif.specs.Element.{elementReading};
-ghost use Rattle.abif.specs.Text.{textReading};
+ghost use Rattle.abif_elements.specs.Element.{elementReading};
+ghost use Rattle.abif_elements.specs.Text.{textReading};
 ghost use Rattle.abif_file.specs.Opened.{ofOpened};
-ghost use Rattle.capi.specs.Answers.{asPart};
-ghost use Rattle.capi.specs.Abif.{asItem, asElement};
+ghost use Rattle.capi.specs.Answers.{asItem, asPart};
+ghost use Rattle.capi.specs.Abif.{asElement};
 
+// The item with this tag.
 #[no_mangle]
 pub extern "C" fn jt_abif_lookup_opened(
     s: &[u8],
@@ -31,6 +32,7 @@ pub extern "C" fn jt_abif_lookup_opened(
     as_item(opened::lookup(s, place, count, name, bits))
 }
 
+// Element number `index`, from one, of the item with this tag.
 #[no_mangle]
 pub extern "C" fn jt_abif_element_opened(
     s: &[u8],
@@ -46,6 +48,7 @@ pub extern "C" fn jt_abif_element_opened(
     as_element(opened::read_element(s, place, count, name, bits, index))
 }
 
+// Where the text of the item with this tag stands.
 #[no_mangle]
 pub extern "C" fn jt_abif_text_opened(
     s: &[u8],

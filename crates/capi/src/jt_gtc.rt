@@ -4,33 +4,36 @@ use crate::answers::Listed;
 use crate::answers::Snp;
 use crate::answers::TransformationAnswer;
 use crate::answers::Verdict;
-use crate::listed::as_listed;
-use gtc::genotype::b_alleles_of;
-use gtc::genotype::ploidy_of;
+use crate::answers::as_item;
+use crate::answers::as_listed;
 use gtc::judge;
 use gtc::lookup;
-use gtc::normalise;
-use gtc::normalise::Point;
-use gtc::snp;
-use gtc::snps;
-use gtc::transformation;
-use gtc::transformation::Transformation;
+use gtc_records::genotype::b_alleles_of;
+use gtc_records::genotype::ploidy_of;
+use gtc_records::normalise;
+use gtc_records::normalise::Point;
+use gtc_records::snp;
+use gtc_records::snps;
+use gtc_records::transformation;
+use gtc_records::transformation::Transformation;
 ghost use mathlib.Core.Path.{_≡_};
 ghost use lib.ListN.{length};
 ghost use Rattle.reading.specs.Check.{answer, mapAnswer};
 ghost use Rattle.reading.specs.Lent.{filled};
 ghost use Rattle.reading.specs.Bulk.{records};
-ghost use Rattle.gtc.specs.Judge.{judging, verdict};
-ghost use Rattle.gtc.specs.Lookup.{lookingUp, found};
-ghost use Rattle.gtc.specs.Snp.{snpReading, snpRead};
-ghost use Rattle.gtc.specs.Snps.{snpNumbers, snpsReading};
-ghost use Rattle.gtc.specs.Transformation.{transformationReading, transformationRead};
-ghost use Rattle.gtc.specs.Normalise.{normalised};
-ghost use Rattle.capi.specs.Answers.{asListed};
-ghost use Rattle.capi.specs.Gtc.{asJudged, asItem, toldSnp, refusedSnp, asSnp, noTransformation, asTransformation};
+ghost use Rattle.gtc.specs.Judge.{judging};
+ghost use Rattle.gtc.specs.Answers.{answerOfVerdict};
+ghost use Rattle.gtc.specs.Lookup.{lookingUp};
+ghost use Rattle.gtc_records.specs.Answers.{answerOfSnpRead, answerOfTransformationRead};
+ghost use Rattle.gtc_records.specs.Snp.{snpReading};
+ghost use Rattle.gtc_records.specs.Snps.{snpsReading, snpNumbers};
+ghost use Rattle.gtc_records.specs.Transformation.{transformationReading};
+ghost use Rattle.gtc_records.specs.Normalise.{normalised};
+ghost use Rattle.capi.specs.Answers.{asItem, asListed};
+ghost use Rattle.capi.specs.Gtc.{asJudged, snpStruct, refusedSnp, asSnp, noTransformation, asTransformation};
 
 fn as_judged(v: judge::Verdict) -> Verdict
-    ensures { λ r. ⌜ r ≡ asJudged (verdict v) ⌝ }
+    ensures { λ r. ⌜ r ≡ asJudged (answerOfVerdict v) ⌝ }
 {
     match v {
         judge::Verdict::Whole { extent, unjudged } => Verdict {
@@ -48,6 +51,7 @@ fn as_judged(v: judge::Verdict) -> Verdict
     }
 }
 
+// Whether the bytes are a whole GTC file, with its extent and its unjudged entries.
 #[no_mangle]
 pub extern "C" fn jt_gtc_judge(s: &[u8]) -> Verdict
     ensures { λ r. ⌜ r ≡ asJudged (answer judging (now (s .entry))) ⌝ }
@@ -55,27 +59,7 @@ pub extern "C" fn jt_gtc_judge(s: &[u8]) -> Verdict
     as_judged(judge::judge(s))
 }
 
-fn as_item(f: lookup::Found) -> Item
-    ensures { λ r. ⌜ r ≡ asItem (found f) ⌝ }
-{
-    match f {
-        lookup::Found::Data(q) => Item {
-            refusal: 0,
-            code: q.id as u64,
-            count: q.count as u64,
-            start: q.start as u64,
-            length: q.size as u64,
-        },
-        lookup::Found::Refused(n) => Item {
-            refusal: n as u64,
-            code: 0,
-            count: 0,
-            start: 0,
-            length: 0,
-        },
-    }
-}
-
+// The item with this id.
 #[no_mangle]
 pub extern "C" fn jt_gtc_lookup(s: &[u8], id: u16) -> Item
     ensures { λ r. ⌜ r ≡ asItem (answer (lookingUp id) (now (s .entry))) ⌝ }
@@ -83,8 +67,8 @@ pub extern "C" fn jt_gtc_lookup(s: &[u8], id: u16) -> Item
     as_item(lookup::lookup(s, id))
 }
 
-fn told_snp(r: snp::Snp) -> Snp
-    ensures { λ t. ⌜ t ≡ toldSnp r ⌝ }
+fn snp_struct(r: snp::Snp) -> Snp
+    ensures { λ t. ⌜ t ≡ snpStruct r ⌝ }
 {
     let g = r.genotype;
     Snp {
@@ -117,14 +101,15 @@ fn refused_snp(refusal: u8) -> Snp
 }
 
 fn as_snp(r: snp::SnpRead) -> Snp
-    ensures { λ t. ⌜ t ≡ asSnp (snpRead r) ⌝ }
+    ensures { λ t. ⌜ t ≡ asSnp (answerOfSnpRead r) ⌝ }
 {
     match r {
-        snp::SnpRead::At(d) => told_snp(d),
+        snp::SnpRead::At(d) => snp_struct(d),
         snp::SnpRead::Refused(n) => refused_snp(n),
     }
 }
 
+// The record of SNP number `index`, from one.
 #[no_mangle]
 pub extern "C" fn jt_gtc_snp(s: &[u8], index: u64) -> Snp
     ensures { λ r. ⌜ r ≡ asSnp (answer (snpReading index) (now (s .entry))) ⌝ }
@@ -163,7 +148,7 @@ fn no_transformation() -> Transformation
 }
 
 fn as_transformation(r: transformation::TransformationRead) -> TransformationAnswer
-    ensures { λ t. ⌜ t ≡ asTransformation (transformationRead r) ⌝ }
+    ensures { λ t. ⌜ t ≡ asTransformation (answerOfTransformationRead r) ⌝ }
 {
     match r {
         transformation::TransformationRead::At { start, value } => TransformationAnswer {
@@ -179,6 +164,7 @@ fn as_transformation(r: transformation::TransformationRead) -> TransformationAns
     }
 }
 
+// Transformation k, with where it starts.
 #[no_mangle]
 pub extern "C" fn jt_gtc_transformation(s: &[u8], k: u64) -> TransformationAnswer
     ensures { λ r. ⌜ r ≡ asTransformation (answer (transformationReading k) (now (s .entry))) ⌝ }
@@ -186,6 +172,7 @@ pub extern "C" fn jt_gtc_transformation(s: &[u8], k: u64) -> TransformationAnswe
     as_transformation(transformation::read_transformation(s, k))
 }
 
+// Two intensities normalised, with the cosine and the sine of theta handed in.
 #[no_mangle]
 pub extern "C" fn jt_gtc_normalise(
     t: Transformation,

@@ -4,7 +4,8 @@ use crate::answers::Listed;
 use crate::answers::SffHeader;
 use crate::answers::SffRead;
 use crate::answers::Verdict;
-use crate::listed::as_listed;
+use crate::answers::as_listed;
+use crate::answers::as_verdict;
 use sff::flow;
 use sff::header;
 use sff::judge;
@@ -16,33 +17,18 @@ ghost use lib.ListN.{length};
 ghost use Rattle.reading.specs.Check.{answer, mapAnswer};
 ghost use Rattle.reading.specs.Lent.{filled};
 ghost use Rattle.reading.specs.Bulk.{records};
-ghost use Rattle.sff.specs.Header.{header as headerReading, opened};
-ghost use Rattle.sff.specs.Judge.{judging, verdict};
-ghost use Rattle.sff.specs.Lookup.{readReading, found};
-ghost use Rattle.sff.specs.Reads.{readsReading, readNumbers};
-ghost use Rattle.sff.specs.Flow.{flowReading, flow as flowAnswer};
+ghost use Rattle.sff.specs.Header.{header as headerReading};
+ghost use Rattle.sff.specs.Answers.{answerOfHeaderFound, answerOfFlow};
+ghost use Rattle.sff.specs.Judge.{judging};
+ghost use Rattle.sff.specs.Lookup.{readReading};
+ghost use Rattle.sff_fields.specs.Answers.{answerOfReadFound};
+ghost use Rattle.sff.specs.Reads.{readsReading};
+ghost use Rattle.sff_fields.specs.Parts.{readNumbers};
+ghost use Rattle.sff.specs.Flow.{flowReading};
 ghost use Rattle.capi.specs.Answers.{asVerdict, asListed};
-ghost use Rattle.capi.specs.Sff.{asHeader, toldRead, refusedRead, asRead, asFlow};
+ghost use Rattle.capi.specs.Sff.{asHeader, readStruct, refusedRead, asRead, asFlow};
 
-fn as_verdict(v: judge::Verdict) -> Verdict
-    ensures { λ r. ⌜ r ≡ asVerdict (verdict v) ⌝ }
-{
-    match v {
-        judge::Verdict::Whole(x) => Verdict {
-            refusal: 0,
-            entry: 0,
-            extent: x as u64,
-            unjudged: 0,
-        },
-        judge::Verdict::Refused { number, read } => Verdict {
-            refusal: number as u64,
-            entry: read as u64,
-            extent: 0,
-            unjudged: 0,
-        },
-    }
-}
-
+// Whether the bytes are a whole SFF file, with its extent.
 #[no_mangle]
 pub extern "C" fn jt_sff_judge(s: &[u8]) -> Verdict
     ensures { λ r. ⌜ r ≡ asVerdict (answer judging (now (s .entry))) ⌝ }
@@ -51,11 +37,11 @@ pub extern "C" fn jt_sff_judge(s: &[u8]) -> Verdict
 }
 
 // The flow letters start at 31, behind the fields, and the key behind the letters.
-fn as_header(o: header::Opened) -> SffHeader
-    ensures { λ r. ⌜ r ≡ asHeader (opened o) ⌝ }
+fn as_header(o: header::HeaderFound) -> SffHeader
+    ensures { λ r. ⌜ r ≡ asHeader (answerOfHeaderFound o) ⌝ }
 {
     match o {
-        header::Opened::At(d) => SffHeader {
+        header::HeaderFound::At(d) => SffHeader {
             refusal: 0,
             index_offset: d.index_offset,
             index_length: d.index_length as u64,
@@ -66,7 +52,7 @@ fn as_header(o: header::Opened) -> SffHeader
             flow_letters_start: 31,
             key_start: 31 + d.flows as u64,
         },
-        header::Opened::Refused(n) => SffHeader {
+        header::HeaderFound::Refused(n) => SffHeader {
             refusal: n as u64,
             index_offset: 0,
             index_length: 0,
@@ -80,6 +66,7 @@ fn as_header(o: header::Opened) -> SffHeader
     }
 }
 
+// The fields of the common header.
 #[no_mangle]
 pub extern "C" fn jt_sff_header(s: &[u8]) -> SffHeader
     ensures { λ r. ⌜ r ≡ asHeader (answer headerReading (now (s .entry))) ⌝ }
@@ -87,8 +74,8 @@ pub extern "C" fn jt_sff_header(s: &[u8]) -> SffHeader
     as_header(header::read_fields(s))
 }
 
-fn told_read(r: lookup::Read) -> SffRead
-    ensures { λ t. ⌜ t ≡ toldRead r ⌝ }
+fn read_struct(r: parts::Read) -> SffRead
+    ensures { λ t. ⌜ t ≡ readStruct r ⌝ }
 {
     SffRead {
         refusal: 0,
@@ -135,15 +122,16 @@ fn refused_read(refusal: u8) -> SffRead
     }
 }
 
-fn as_read(f: lookup::Found) -> SffRead
-    ensures { λ r. ⌜ r ≡ asRead (found f) ⌝ }
+fn as_read(f: record::ReadFound) -> SffRead
+    ensures { λ r. ⌜ r ≡ asRead (answerOfReadFound f) ⌝ }
 {
     match f {
-        lookup::Found::At(r) => told_read(r),
-        lookup::Found::Refused(n) => refused_read(n),
+        record::ReadFound::At(r) => read_struct(r),
+        record::ReadFound::Refused(n) => refused_read(n),
     }
 }
 
+// Read k.
 #[no_mangle]
 pub extern "C" fn jt_sff_read(s: &[u8], k: u64) -> SffRead
     ensures { λ r. ⌜ r ≡ asRead (answer (readReading k) (now (s .entry))) ⌝ }
@@ -161,7 +149,7 @@ pub extern "C" fn jt_sff_reads(s: &[u8], first: u64, out: &mut [u64]) -> Listed
 }
 
 fn as_flow(f: flow::Flow) -> Flow
-    ensures { λ r. ⌜ r ≡ asFlow (flowAnswer f) ⌝ }
+    ensures { λ r. ⌜ r ≡ asFlow (answerOfFlow f) ⌝ }
 {
     match f {
         flow::Flow::At(p) => Flow {
@@ -175,6 +163,7 @@ fn as_flow(f: flow::Flow) -> Flow
     }
 }
 
+// The flow of a base of read k.
 #[no_mangle]
 pub extern "C" fn jt_sff_flow_of_base(s: &[u8], k: u64, base: u64) -> Flow
     ensures { λ r. ⌜ r ≡ asFlow (answer (flowReading k (record { 0 = base })) (now (s .entry))) ⌝ }

@@ -1,17 +1,18 @@
 // The calls that write an SFF file. The state goes in and comes back; its `refusal` is not looked at.
 use crate::answers::SffWriter;
 use crate::answers::Written;
-use crate::written::as_written;
+use crate::answers::as_written;
 use sff_write::read::Clips;
 use sff_write::write;
 ghost use mathlib.Core.Path.{_≡_};
 ghost use mathlib.Core.List.{[]};
 ghost use lib.ListN.{length};
 ghost use Rattle.reading.specs.Check.{answer, mapAnswer};
-ghost use Rattle.sff_write.specs.Read.{given};
-ghost use Rattle.sff_write.specs.Write.{behind, advanced, writtenAt, beginning, adding, finishing};
+ghost use Rattle.sff_write.specs.Read.{givenRead};
+ghost use Rattle.sff_write.specs.Write.{behind, writtenAt, beginning, adding, finishing};
+ghost use Rattle.sff_write.specs.Answers.{answerOfAdvanced};
 ghost use Rattle.capi.specs.Answers.{asWritten};
-ghost use Rattle.capi.specs.SffWrite.{stateOf, toldWriter, asWriter, asAdded, clipsOf};
+ghost use Rattle.capi.specs.SffWrite.{stateOf, writerStruct, asWriter, asAdded, clipsOf};
 
 fn state_of(w: SffWriter) -> write::Writer
     ensures { λ r. ⌜ r ≡ stateOf w ⌝ }
@@ -24,8 +25,8 @@ fn state_of(w: SffWriter) -> write::Writer
     }
 }
 
-fn told_writer(w: write::Writer) -> SffWriter
-    ensures { λ r. ⌜ r ≡ toldWriter w ⌝ }
+fn writer_struct(w: write::Writer) -> SffWriter
+    ensures { λ r. ⌜ r ≡ writerStruct w ⌝ }
 {
     SffWriter {
         refusal: 0,
@@ -37,10 +38,10 @@ fn told_writer(w: write::Writer) -> SffWriter
 }
 
 fn as_writer(a: write::Advanced) -> SffWriter
-    ensures { λ r. ⌜ r ≡ asWriter (advanced a) ⌝ }
+    ensures { λ r. ⌜ r ≡ asWriter (answerOfAdvanced a) ⌝ }
 {
     match a {
-        write::Advanced::To(w) => told_writer(w),
+        write::Advanced::To(w) => writer_struct(w),
         write::Advanced::Refused(n) => SffWriter {
             refusal: n as u64,
             reads: 0,
@@ -51,6 +52,7 @@ fn as_writer(a: write::Advanced) -> SffWriter
     }
 }
 
+// The header of a file of so many reads, at the front of the output.
 #[no_mangle]
 pub extern "C" fn jt_sff_begin(
     reads: u32,
@@ -66,10 +68,10 @@ pub extern "C" fn jt_sff_begin(
 
 // A refused read leaves the state as it was, so that the next call may go on.
 fn as_added(w: SffWriter, a: write::Advanced) -> SffWriter
-    ensures { λ r. ⌜ r ≡ asAdded w (advanced a) ⌝ }
+    ensures { λ r. ⌜ r ≡ asAdded w (answerOfAdvanced a) ⌝ }
 {
     match a {
-        write::Advanced::To(v) => told_writer(v),
+        write::Advanced::To(v) => writer_struct(v),
         write::Advanced::Refused(n) => SffWriter {
             refusal: n as u64,
             reads: w.reads,
@@ -80,6 +82,7 @@ fn as_added(w: SffWriter, a: write::Advanced) -> SffWriter
     }
 }
 
+// The next read, behind what is written.
 #[no_mangle]
 pub extern "C" fn jt_sff_add(
     w: SffWriter,
@@ -94,8 +97,8 @@ pub extern "C" fn jt_sff_add(
     adapter_right: u64,
     out: &mut [u8],
 ) -> SffWriter
-    ensures { λ r. ⌜ r ≡ asAdded w (mapAnswer behind (answer (adding (stateOf w) (given (now (name .entry)) (now (flows .entry)) (now (steps .entry)) (now (letters .entry)) (now (qualities .entry)) (clipsOf «quality_left» «quality_right» «adapter_left» «adapter_right»)) (length (now (out .entry)))) [])) ⌝ }
-    ensures { λ _. ⌜ now (out .exit) ≡ writtenAt (w .at) (answer (adding (stateOf w) (given (now (name .entry)) (now (flows .entry)) (now (steps .entry)) (now (letters .entry)) (now (qualities .entry)) (clipsOf «quality_left» «quality_right» «adapter_left» «adapter_right»)) (length (now (out .entry)))) []) (now (out .entry)) ⌝ }
+    ensures { λ r. ⌜ r ≡ asAdded w (mapAnswer behind (answer (adding (stateOf w) (givenRead (now (name .entry)) (now (flows .entry)) (now (steps .entry)) (now (letters .entry)) (now (qualities .entry)) (clipsOf «quality_left» «quality_right» «adapter_left» «adapter_right»)) (length (now (out .entry)))) [])) ⌝ }
+    ensures { λ _. ⌜ now (out .exit) ≡ writtenAt (w .at) (answer (adding (stateOf w) (givenRead (now (name .entry)) (now (flows .entry)) (now (steps .entry)) (now (letters .entry)) (now (qualities .entry)) (clipsOf «quality_left» «quality_right» «adapter_left» «adapter_right»)) (length (now (out .entry)))) []) (now (out .entry)) ⌝ }
 {
     let clips = Clips {
         quality_left,
@@ -110,6 +113,7 @@ pub extern "C" fn jt_sff_add(
     )
 }
 
+// The length of the file, where as many reads are written as were stated.
 #[no_mangle]
 pub extern "C" fn jt_sff_finish(w: SffWriter) -> Written
     ensures { λ r. ⌜ r ≡ asWritten (answer (finishing (stateOf w)) []) ⌝ }

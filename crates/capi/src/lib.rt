@@ -7,5 +7,3 @@ pub mod jt_abif_write;
 pub mod jt_gtc;
 pub mod jt_sff;
 pub mod jt_sff_write;
-pub(crate) mod listed;
-pub(crate) mod written;

@@ -2,7 +2,7 @@
 use Prim.Native.Nat.{ℕ, _*_}
 use mathlib.Core.Path.{_≡_, sym, _∙_, ap, subst}
 use mathlib.Core.List.{List}
-use Rattle.reading.specs.Check.{ok, answer}
+use Rattle.reading.specs.Check.{ok, answer, provided}
 use Rattle.reading.proofs.Passed.{bind-ok, done-ok, must-ok, ok-inj}
 use Rattle.reading.proofs.Signed.{equal-to-is}
 use Rattle.gtc.specs.declared.entry.Entry.{Entry}
@@ -11,12 +11,11 @@ use Rattle.gtc.specs.declared.item.Shape.the-variants.{Array, SnpArray}
 use Rattle.gtc.specs.declared.item.Stored.{Stored}
 use Rattle.gtc.specs.declared.item.Stored.the-variants.{Shaped}
 use Rattle.gtc.specs.declared.item.Listing.the-variants.{Listed}
-use Rattle.gtc.specs.declared.item.ItemData.{ItemData}
+use Rattle.reading.specs.declared.item.ItemData.{ItemData}
 use Rattle.gtc.specs.Table.{Table, table}
 use Rattle.gtc.specs.Entry.{entryWith}
-use Rattle.gtc.specs.Item.{listingOf, countField, arrayCount, elementsOf, snpCheck, shapeCheck, shapedCheck, itemCheck}
-use Rattle.gtc.specs.Lookup.{storedAs, lookupListed, lookupIn, lookingUp}
-use Rattle.gtc.proofs.lookup.Laws.{stored-ok}
+use Rattle.gtc.specs.Item.{listingOf, isListed, numSnpsId, countField, arrayCount, elementsOf, snpCheck, shapeCheck, shapedCheck, itemCheck}
+use Rattle.gtc.specs.Lookup.{storedOf, lookupListed, lookupIn, lookingUp}
 
 -- what lookup of an id with a shape has passed
 record Shapes (z : Shape) (s : List ℕ) (q : ItemData) : Type 0 where
@@ -29,9 +28,9 @@ shaped : (k : ℕ) (z : Shape) (s : List ℕ) (q : ItemData) → listingOf k ≡
 unfolding lookingUp lookupIn lookupListed itemCheck shapedCheck
 shaped k z s q e w =
     let t = bind-ok table _ s q w in
-    let a = bind-ok (storedAs (listingOf k)) _ s q (t .2) in
+    let a = bind-ok (provided (isListed (listingOf k)) 10) _ s q (t .2) in
     let d = bind-ok (entryWith (t .0 .upTo) (t .0 .count) k) _ s q (a .2) in
-    let i : a .0 ≡ Shaped z = cc (stored-ok (listingOf k) s (a .0) (a .1)) in
+    let i : storedOf (listingOf k) ≡ Shaped z = ap storedOf e in
     let b = bind-ok _ _ s q (subst (λ (v : Stored). answer (itemCheck v (t .0 .upTo) (t .0 .count) (d .0)) s ≡ ok q) i (d .2)) in
     record { contents = t .0; opened = t .1; entry = d .0; passed = b .2 }
 
@@ -55,7 +54,7 @@ pub record OfSnps (w : ℕ) (s : List ℕ) (q : ItemData) : Type 0 where
   pub contents : Table
   pub opened : answer table s ≡ ok contents
   pub snps : Entry
-  pub known : answer (entryWith (contents .upTo) (contents .count) 1) s ≡ ok snps
+  pub known : answer (entryWith (contents .upTo) (contents .count) numSnpsId) s ≡ ok snps
   pub count : q .count ≡ snps .offset
 
 pub of-snps : (k w : ℕ) (s : List ℕ) (q : ItemData) → listingOf k ≡ Listed (Shaped (SnpArray w)) → answer (lookingUp k) s ≡ ok q → OfSnps w s q
@@ -64,7 +63,7 @@ of-snps k w s q e h =
     let f = shaped k (SnpArray w) s q e h in
     let a = bind-ok (arrayCount (f .entry .offset)) _ s q (f .passed) in
     let b = bind-ok (snpCheck (f .contents .upTo) (f .contents .count) (f .entry .offset) (a .0)) _ s q (a .2) in
-    let v = bind-ok (entryWith (f .contents .upTo) (f .contents .count) 1) _ s (b .0) (b .1) in
+    let v = bind-ok (entryWith (f .contents .upTo) (f .contents .count) numSnpsId) _ s (b .0) (b .1) in
     let z = sized w (f .entry) (a .0) s q (b .2) in
     record {
       size = z .1;
@@ -78,5 +77,5 @@ of-snps k w s q e h =
 pub same-count : (v w : ℕ) (s : List ℕ) (q r : ItemData) → OfSnps v s q → OfSnps w s r → q .count ≡ r .count
 same-count v w s q r a b =
     let t : a .contents ≡ b .contents = ok-inj (sym (a .opened) ∙ b .opened) in
-    let d : a .snps ≡ b .snps = ok-inj (sym (a .known) ∙ ap (λ (c : Table). answer (entryWith (c .upTo) (c .count) 1) s) t ∙ b .known) in
+    let d : a .snps ≡ b .snps = ok-inj (sym (a .known) ∙ ap (λ (c : Table). answer (entryWith (c .upTo) (c .count) numSnpsId) s) t ∙ b .known) in
     a .count ∙ ap (λ (x : Entry). x .offset) d ∙ sym (b .count)

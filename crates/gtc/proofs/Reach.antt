@@ -10,31 +10,25 @@ use Rattle.reading.specs.Entries.{inOrder}
 use Rattle.reading.proofs.Cut.{answer-same}
 use Rattle.reading.proofs.Steps.{reach-done, reach-must, reach-need}
 use Rattle.reading.proofs.Passed.{bind-ok, done-ok, ok-inj}
-use Rattle.reading.proofs.Reach.{reach-none, reach-under, reach-must-under, reach-need-under, reach-done-under}
+use Rattle.reading.proofs.Reach.{reach-none, reach-under, reach-must-under}
 use Rattle.reading.proofs.Entries.{beyond, order-ends}
 use Rattle.gtc.specs.declared.entry.Entry.{Entry}
 use Rattle.gtc.specs.declared.item.Stored.{Stored}
 use Rattle.gtc.specs.declared.item.Listing.{Listing}
 use Rattle.gtc.specs.declared.item.Listing.the-variants.{Listed, Unlisted}
-use Rattle.gtc.specs.declared.item.ItemData.{ItemData}
-use Rattle.gtc.specs.declared.snp.SnpArrays.{SnpArrays}
-use Rattle.gtc.specs.Table.{Table, tableEnd, markCheck, countCheck, table}
-use Rattle.gtc.specs.Entry.{entryPlace, entryOf}
+use Rattle.reading.specs.declared.item.ItemData.{ItemData}
+use Rattle.gtc.specs.Table.{Table, tableEnd, identifierCheck, countCheck, table, entryPlace}
+use Rattle.gtc.specs.Entry.{entryOf}
 use Rattle.gtc.specs.Item.{listingOf, itemCheck, itemEnd}
 use Rattle.gtc.specs.Judge.{Extent, judgeAs, judgeEntry, judgeTable, judging}
-use Rattle.gtc.specs.Lookup.{storedAs, lookupListed, lookupIn, lookingUp}
+use Rattle.gtc.specs.Lookup.{storedOf, lookupListed, lookupIn, lookingUp}
 use Rattle.gtc.proofs.entry.Laws.{with-found, with-none-needed, entry-place}
 use Rattle.gtc.proofs.item.Laws.{item-end}
-use Rattle.gtc.proofs.lookup.Laws.{stored-ok, lookup-within}
-use Rattle.gtc.specs.Genotype.{decoding}
-use Rattle.gtc.specs.Snp.{callArrays, intensityArrays, snpArrays, elements, SnpBytes, snpBytes, snpAt, snpOf, snpReading}
-use Rattle.gtc.specs.Snps.{snpsOf, snpsReading}
-use Rattle.gtc.specs.Transformation.{transformationOf, transformationReading}
-use Rattle.gtc.proofs.snp.Laws.{looked}
+use Rattle.gtc.proofs.lookup.Laws.{listed-ok, lookup-within}
 
-mark-none : (a b : ℕ) (s : List ℕ) → reach (markCheck a b) s ≡ 0
-unfolding markCheck
-mark-none a b s = search (reach-none, reach-must) depth 12
+identifier-none : (a b : ℕ) (s : List ℕ) → reach (identifierCheck a b) s ≡ 0
+unfolding identifierCheck
+identifier-none a b s = search (reach-none, reach-must) depth 12
 
 count-none : (n : ℕ) (s : List ℕ) → reach (countCheck n) s ≡ 0
 unfolding countCheck
@@ -48,7 +42,7 @@ table-reach s t w =
     let d = bind-ok _ _ s t (c .2) in
     let e = bind-ok _ _ s t (d .2) in
     let g = done-ok _ t s (e .2) in
-    simp (b .3, c .3, d .3, e .3, mark-none, count-none, reach-need, reach-done, ← g) (omega arith)
+    simp (b .3, c .3, d .3, e .3, identifier-none, count-none, reach-need, reach-done, ← g) (omega arith)
 
 -- the checks of an entry whose id is listed need no more than x bytes
 abbrev Within : List ℕ → ℕ → List ℕ → ℕ → Entry → Type 0
@@ -96,11 +90,6 @@ whole s v w =
 pub extent : (s : List ℕ) (v : Extent) → answer judging s ≡ ok v → reach judging s ≡ v .extent
 extent s v w = whole s v w .2
 
-stored-under : (x : ℕ) (l : Listing) (s : List ℕ) → reach (storedAs l) s ≤ x
-unfolding storedAs
-stored-under x (Listed v) s = reach-done-under x _ s
-stored-under x Unlisted s = reach-under x _ _ s (reach-must-under x _ _ _ s) (λ _ _. reach-done-under x _ s)
-
 pub lookup-under : (k : ℕ) (s : List ℕ) (v : Extent) → answer judging s ≡ ok v → reach (lookingUp k) s ≤ v .extent
 unfolding lookingUp lookupIn lookupListed
 lookup-under k s v w =
@@ -109,10 +98,10 @@ lookup-under k s v w =
     reach-under x _ _ s (omega (arith, table-reach s (a .0) (a .1))) (λ t e.
     let q : a .0 ≡ t = ok-inj (sym (a .1) ∙ e) in
     subst (λ (t : Table). reach (lookupIn (t .upTo) (t .count) k) s ≤ x) q
-    (reach-under x _ _ s (stored-under x (listingOf k) s) (λ u l.
+    (reach-under x _ _ s (reach-must-under x _ _ _ s) (λ u l.
     reach-under x _ _ s (rw (with-none-needed s (a .0 .upTo) (a .0 .count) k) (omega arith)) (λ d f.
     let p = with-found s (a .0 .upTo) (a .0 .count) k d f in
-    subst (Within (a .0 .upTo) (a .0 .count) s x) (sym (p .2)) (a .4 (p .0) (p .1)) u (ap listingOf (p .3) ∙ stored-ok (listingOf k) s u l)))))
+    subst (Within (a .0 .upTo) (a .0 .count) s x) (sym (p .2)) (a .4 (p .0) (p .1)) (storedOf (listingOf k)) (ap listingOf (p .3) ∙ listed-ok (listingOf k) s u l)))))
 
 -- the data that lookup finds lie within the extent
 pub found-under : (k : ℕ) (s : List ℕ) (v : Extent) → answer judging s ≡ ok v → (q : ItemData) → answer (lookingUp k) s ≡ ok q → q .start + q .size ≤ v .extent
@@ -120,64 +109,3 @@ found-under k s v w q e =
     let f = lookup-within k (take (v .extent) s) q (answer-same (lookingUp k) (v .extent) s (lookup-under k s v w) ∙ e) in
     let l : length (take (v .extent) s) ≡ min (v .extent) (length s) = length-take (v .extent) s in
     omega arith
-
--- a call that looks up the SNPs' arrays, then reads their elements
-arrays-under : (s : List ℕ) (v : Extent) → answer judging s ≡ ok v → reach snpArrays s ≤ v .extent
-unfolding snpArrays callArrays intensityArrays
-arrays-under s v w =
-    let x = v .extent in
-    reach-under x _ _ s
-    (reach-under x _ _ s (lookup-under 1002 s v w) (λ _ _.
-    reach-under x _ _ s (lookup-under 1003 s v w) (λ _ _.
-    reach-under x _ _ s (lookup-under 1004 s v w) (λ _ _. reach-done-under x _ s))))
-    (λ _ _.
-    reach-under x _ _ s
-    (reach-under x _ _ s (lookup-under 1000 s v w) (λ _ _.
-    reach-under x _ _ s (lookup-under 1001 s v w) (λ _ _. reach-done-under x _ s)))
-    (λ _ _. reach-done-under x _ s))
-
-elements-under : (k : ℕ) (s : List ℕ) (v : Extent) → answer judging s ≡ ok v → (q : ItemData) → answer (lookingUp k) s ≡ ok q → reach (elements q) s ≤ v .extent
-elements-under k s v w q e = reach-under _ _ _ s (reach-need-under _ _ _ s (found-under k s v w q e)) (λ _ _. reach-done-under _ _ s)
-
-bytes-under : (a : SnpArrays) (s : List ℕ) (v : Extent) → answer judging s ≡ ok v → answer snpArrays s ≡ ok a → reach (snpBytes a) s ≤ v .extent
-unfolding snpBytes
-bytes-under a s v w e =
-    let x = v .extent in
-    let l = looked s a e in
-    reach-under x _ _ s (elements-under 1002 s v w _ (l .genotypes)) (λ _ _.
-    reach-under x _ _ s (elements-under 1003 s v w _ (l .baseCalls)) (λ _ _.
-    reach-under x _ _ s (elements-under 1004 s v w _ (l .scores)) (λ _ _.
-    reach-under x _ _ s (elements-under 1000 s v w _ (l .x)) (λ _ _.
-    reach-under x _ _ s (elements-under 1001 s v w _ (l .y)) (λ _ _. reach-done-under x _ s)))))
-
-record-under : (x : ℕ) (b : SnpBytes) (j : ℕ) (s : List ℕ) → reach (snpAt b j) s ≤ x
-unfolding snpAt decoding
-record-under x b j s =
-    reach-under x _ _ s (reach-under x _ _ s (reach-must-under x _ _ _ s) (λ _ _. reach-done-under x _ s)) (λ _ _.
-    reach-under x _ _ s (reach-must-under x _ _ _ s) (λ _ _.
-    reach-under x _ _ s (reach-must-under x _ _ _ s) (λ _ _. reach-done-under x _ s)))
-
-pub snp-under : (i : ℕ) (s : List ℕ) (v : Extent) → answer judging s ≡ ok v → reach (snpReading i) s ≤ v .extent
-unfolding snpReading snpOf
-snp-under i s v w =
-    let x = v .extent in
-    reach-under x _ _ s (arrays-under s v w) (λ a e.
-    reach-under x _ _ s (reach-must-under x _ _ _ s) (λ _ _.
-    reach-under x _ _ s (bytes-under a s v w e) (λ b _. record-under x b _ s)))
-
-pub snps-under : (i r : ℕ) (s : List ℕ) (v : Extent) → answer judging s ≡ ok v → reach (snpsReading i r) s ≤ v .extent
-unfolding snpsReading snpsOf
-snps-under i r s v w =
-    let x = v .extent in
-    reach-under x _ _ s (arrays-under s v w) (λ a e.
-    reach-under x _ _ s (reach-must-under x _ _ _ s) (λ _ _.
-    reach-under x _ _ s (reach-must-under x _ _ _ s) (λ _ _.
-    reach-under x _ _ s (bytes-under a s v w e) (λ _ _. reach-done-under x _ s))))
-
-pub transformation-under : (k : ℕ) (s : List ℕ) (v : Extent) → answer judging s ≡ ok v → reach (transformationReading k) s ≤ v .extent
-unfolding transformationReading transformationOf
-transformation-under k s v w =
-    let x = v .extent in
-    reach-under x _ _ s (lookup-under 400 s v w) (λ q e.
-    reach-under x _ _ s (reach-must-under x _ _ _ s) (λ _ _.
-    reach-under x _ _ s (reach-need-under x _ _ s (found-under 400 s v w q e)) (λ _ _. reach-done-under x _ s)))

@@ -1,10 +1,6 @@
 -- The refusals of GTC's reading calls. P is what holds of these, their numbers and their entries.
 use Prim.Native.Nat.{ℕ, _+_}
-use mathlib.Core.Path.{_≡_}
-use mathlib.Core.Bool.{false}
 use mathlib.Core.List.{List}
-use lib.Dec.{leb}
-use Rattle.reading.specs.Check.{holds}
 use Rattle.reading.proofs.Refused.{Refuses, refuses-done, refuses-must, refuses-need, refuses-bind}
 use Rattle.reading.proofs.Entries.{one-refuses, order-refuses}
 use Rattle.gtc.specs.declared.entry.Entry.{Entry}
@@ -14,34 +10,20 @@ use Rattle.gtc.specs.declared.item.Stored.{Stored}
 use Rattle.gtc.specs.declared.item.Stored.the-variants.{Value, Shaped}
 use Rattle.gtc.specs.declared.item.Listing.{Listing}
 use Rattle.gtc.specs.declared.item.Listing.the-variants.{Listed, Unlisted}
-use Rattle.gtc.specs.declared.snp.SnpArrays.{SnpArrays}
-use Rattle.gtc.specs.Table.{markCheck, countCheck, table, tableEnd}
+use Rattle.gtc.specs.Table.{identifierCheck, countCheck, table, tableEnd}
 use Rattle.gtc.specs.Entry.{hasId, entryWith}
 use Rattle.gtc.specs.Item.{listingOf, stringEnd, scannerRest, scannerEnd, arrayCount, elementsOf, snpCheck, shapeCheck, shapedCheck, itemCheck}
 use Rattle.gtc.specs.Judge.{judgeAs, judgeEntry, judgeTable, judging}
-use Rattle.gtc.specs.Lookup.{storedAs, lookupListed, lookupIn, lookingUp}
-use Rattle.gtc.specs.Genotype.{decoding}
-use Rattle.gtc.specs.Snp.{callArrays, intensityArrays, snpArrays, SnpBytes, snpBytes, snpAt, snpOf, snpReading}
-use Rattle.gtc.specs.Snps.{snpsOf, snpsReading}
-use Rattle.gtc.specs.Transformation.{transformationOf, transformationReading}
-
-module _ (P : ℕ → ℕ → Type 0) (s : List ℕ) where
-  pub record-refuses : P 11 0 → (b : SnpBytes) (j : ℕ) → Refuses P (snpAt b j) s
-  unfolding snpAt decoding
-  record-refuses a b j = search (refuses-bind, refuses-must, refuses-done, a) depth 14
+use Rattle.gtc.specs.Lookup.{storedOf, lookupListed, lookupIn, lookingUp}
 
 module _ (P : ℕ → ℕ → Type 0) (s : List ℕ) (cut : P 1 0) where
   table-refuses : P 2 0 → P 3 0 → P 4 0 → P 5 0 → Refuses P table s
-  unfolding table markCheck countCheck
+  unfolding table identifierCheck countCheck
   table-refuses a b c d = search (refuses-bind, refuses-must, refuses-need, refuses-done, cut, a, b, c, d) depth 14
 
   string-refuses : (p : ℕ) → Refuses P (stringEnd p) s
   unfolding stringEnd
   string-refuses p = search (refuses-bind, refuses-need, refuses-done, cut) depth 14
-
-  pub bytes-refuses : (a : SnpArrays) → Refuses P (snpBytes a) s
-  unfolding snpBytes
-  bytes-refuses a = search (refuses-bind, refuses-need, refuses-done, cut) depth 14
 
   -- the checks of an item
   module _ (absent : P 7 0) (twice : P 8 0) (count : P 9 0) where
@@ -70,37 +52,15 @@ module _ (P : ℕ → ℕ → Type 0) (s : List ℕ) (cut : P 1 0) where
 -- judging reports each entry by its number
 pub judging-refuses : (P : ℕ → ℕ → Type 0) (s : List ℕ) → ((e : ℕ) → P 1 e) → P 2 0 → P 3 0 → P 4 0 → P 5 0 → ((e : ℕ) → P 6 e) → ((e : ℕ) → P 7 e) → ((e : ℕ) → P 8 e) → ((e : ℕ) → P 9 e) → Refuses P judging s
 unfolding judging judgeTable judgeEntry
-judging-refuses P s cut mark version negative many offset absent twice count =
-    refuses-bind P _ _ s (table-refuses P s (cut 0) mark version negative many) (λ t _.
+judging-refuses P s cut identifier version negative many offset absent twice count =
+    refuses-bind P _ _ s (table-refuses P s (cut 0) identifier version negative many) (λ t _.
     refuses-bind P _ _ s (order-refuses P s (judgeEntry (t .upTo) (t .count)) (λ i. judged-refuses (λ n _. P n (i + 1)) s (cut (i + 1)) (absent (i + 1)) (twice (i + 1)) (count (i + 1)) (offset (i + 1)) _ (t .upTo) (t .count) i _) (t .count) 0 (tableEnd (t .count))) (λ x _. refuses-done P _ s))
 
 -- the calls that report no entry
-module _ (P : ℕ → ℕ → Type 0) (s : List ℕ) (cut : P 1 0) (mark : P 2 0) (version : P 3 0) (negative : P 4 0) (many : P 5 0) (offset : P 6 0) (absent : P 7 0) (twice : P 8 0) (count : P 9 0) (unlisted : P 10 0) where
-  stored-refuses : (l : Listing) → Refuses P (storedAs l) s
-  unfolding storedAs
-  stored-refuses (Listed v) = refuses-done P _ s
-  stored-refuses Unlisted = refuses-bind P _ _ s (refuses-must P _ _ 10 s (λ _. unlisted)) (λ _ _. refuses-done P _ s)
-
+module _ (P : ℕ → ℕ → Type 0) (s : List ℕ) (cut : P 1 0) (identifier : P 2 0) (version : P 3 0) (negative : P 4 0) (many : P 5 0) (offset : P 6 0) (absent : P 7 0) (twice : P 8 0) (count : P 9 0) (unlisted : P 10 0) where
   pub lookup-refuses : (k : ℕ) → Refuses P (lookingUp k) s
   unfolding lookingUp lookupIn lookupListed
   lookup-refuses k =
-      refuses-bind P _ _ s (table-refuses P s cut mark version negative many) (λ t _.
-      refuses-bind P _ _ s (stored-refuses (listingOf k)) (λ v _.
-      refuses-bind P _ _ s (with-refuses P s cut absent twice count (t .upTo) (t .count) k) (λ d _. item-refuses P s cut absent twice count offset v _ _ d)))
-
-  pub arrays-refuses : Refuses P snpArrays s
-  unfolding snpArrays callArrays intensityArrays
-  arrays-refuses = search (refuses-bind, lookup-refuses, refuses-done) depth 14
-
-  module _ (none-such : P 12 0) where
-    pub snp-refuses : P 11 0 → (i : ℕ) → Refuses P (snpReading i) s
-    unfolding snpReading snpOf
-    snp-refuses contents i = search (refuses-bind, refuses-must, arrays-refuses, bytes-refuses, record-refuses, contents, cut, none-such) depth 14
-
-    pub snps-refuses : (first room : ℕ) → (leb 9 room ≡ false → P 13 0) → Refuses P (snpsReading first room) s
-    unfolding snpsReading snpsOf holds
-    snps-refuses first room full = search (refuses-bind, refuses-must, arrays-refuses, bytes-refuses, refuses-done, full, cut, none-such) depth 14
-
-    pub transformation-refuses : (k : ℕ) → Refuses P (transformationReading k) s
-    unfolding transformationReading transformationOf
-    transformation-refuses k = search (refuses-bind, refuses-must, refuses-need, lookup-refuses, refuses-done, cut, none-such) depth 14
+      refuses-bind P _ _ s (table-refuses P s cut identifier version negative many) (λ t _.
+      refuses-bind P _ _ s (refuses-must P _ _ 10 s (λ _. unlisted)) (λ _ _.
+      refuses-bind P _ _ s (with-refuses P s cut absent twice count (t .upTo) (t .count) k) (λ d _. item-refuses P s cut absent twice count offset (storedOf (listingOf k)) _ _ d)))

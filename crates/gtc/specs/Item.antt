@@ -7,7 +7,8 @@ use Rattle.reading.specs.Choice.{pick}
 use Rattle.reading.specs.Number.{le}
 use Rattle.reading.specs.declared.check.Field.{Field}
 use Rattle.reading.specs.declared.check.Rule.the-variants.{NotNegative, AtLeast, EqualTo}
-use Rattle.reading.specs.Check.{Check, Outcome, passed, failed, short, signedField, done, must, need, _>>=_, _>>_}
+use Rattle.reading.specs.Check.{Check, signedField, done, must, need, _>>=_, _>>_}
+use Rattle.reading.specs.declared.item.ItemData.{ItemData}
 use Rattle.gtc.specs.declared.entry.Entry.{Entry}
 use Rattle.gtc.specs.declared.item.Shape.{Shape}
 use Rattle.gtc.specs.declared.item.Shape.the-variants.{Text, Array, SnpArray, Scanner, Block}
@@ -15,13 +16,6 @@ use Rattle.gtc.specs.declared.item.Stored.{Stored}
 use Rattle.gtc.specs.declared.item.Stored.the-variants.{Value, Shaped}
 use Rattle.gtc.specs.declared.item.Listing.{Listing}
 use Rattle.gtc.specs.declared.item.Listing.the-variants.{Listed, Unlisted}
-use Rattle.gtc.specs.declared.item.ItemData.{ItemData}
-use Rattle.gtc.specs.declared.item.Ended as Ended
-use Rattle.gtc.specs.declared.item.Ended.the-variants as ended
-use Rattle.gtc.specs.declared.item.Counted as Counted
-use Rattle.gtc.specs.declared.item.Counted.the-variants as counted
-use Rattle.gtc.specs.declared.item.Item as Item
-use Rattle.gtc.specs.declared.item.Item.the-variants as found
 use Rattle.gtc.specs.Table.{tableEnd}
 use Rattle.gtc.specs.Entry.{offsetField, entryWith}
 
@@ -31,158 +25,165 @@ pub record Row : Type 0 where
   pub stored : Stored
 
 abbrev pub row : ℕ → Stored → Row
-row k v = record { id = k; stored = v }
+row id stored = record { id = id; stored = stored }
 
--- Table 3. A value stands in the offset field itself. At its offset an id has a string (Text), an array with the width of its elements (Array, and SnpArray with one element for each SNP), the scanner data,
--- or a block of so many bytes.
+-- Table 3, with its names. A value stands in the offset field itself. At its offset an id has a string (Text), an array with the width of its elements
+-- (Array, and SnpArray with one element for each SNP), the scanner data, or a block of so many bytes.
 abbrev pub rows : List Row
 rows =
-    row 1 Value
-    ∷ row 2 Value
-    ∷ row 3 Value
-    ∷ row 10 (Shaped Text)
-    ∷ row 11 (Shaped Text)
-    ∷ row 12 (Shaped Text)
-    ∷ row 100 (Shaped Text)
-    ∷ row 101 (Shaped Text)
-    ∷ row 200 (Shaped Text)
-    ∷ row 201 (Shaped Text)
-    ∷ row 300 (Shaped Text)
-    ∷ row 400 (Shaped (Array 52))
-    ∷ row 500 (Shaped (Array 2))
-    ∷ row 501 (Shaped (Array 2))
-    ∷ row 1000 (Shaped (SnpArray 2))
-    ∷ row 1001 (Shaped (SnpArray 2))
-    ∷ row 1002 (Shaped (SnpArray 1))
-    ∷ row 1003 (Shaped (SnpArray 2))
-    ∷ row 1004 (Shaped (SnpArray 4))
-    ∷ row 1005 (Shaped Scanner)
-    ∷ row 1006 (Shaped (Block 4))
-    ∷ row 1007 (Shaped (Block 1))
-    ∷ row 1008 (Shaped (Block 4))
-    ∷ row 1009 (Shaped (Block 4))
-    ∷ row 1010 Value
-    ∷ row 1011 (Shaped (Block 16))
-    ∷ row 1012 (Shaped (SnpArray 4))
-    ∷ row 1013 (Shaped (SnpArray 4))
-    ∷ row 1014 (Shaped (Block 6))
-    ∷ row 1015 (Shaped (Block 6))
-    ∷ row 1016 (Shaped Text)
+    row 1 Value  -- NumSNPs
+    ∷ row 2 Value  -- Ploidy
+    ∷ row 3 Value  -- Ploidy Type
+    ∷ row 10 (Shaped Text)  -- Sample Name
+    ∷ row 11 (Shaped Text)  -- Sample Plate
+    ∷ row 12 (Shaped Text)  -- Sample Well
+    ∷ row 100 (Shaped Text)  -- Cluster File
+    ∷ row 101 (Shaped Text)  -- SNP Manifest
+    ∷ row 200 (Shaped Text)  -- Imaging Date
+    ∷ row 201 (Shaped Text)  -- AutoCall Date
+    ∷ row 300 (Shaped Text)  -- AutoCall Version
+    ∷ row 400 (Shaped (Array 52))  -- Normalization Transformations
+    ∷ row 500 (Shaped (Array 2))  -- Raw Control X
+    ∷ row 501 (Shaped (Array 2))  -- Raw Control Y
+    ∷ row 1000 (Shaped (SnpArray 2))  -- Raw X intensity values
+    ∷ row 1001 (Shaped (SnpArray 2))  -- Raw Y intensity values
+    ∷ row 1002 (Shaped (SnpArray 1))  -- Genotypes
+    ∷ row 1003 (Shaped (SnpArray 2))  -- BaseCalls
+    ∷ row 1004 (Shaped (SnpArray 4))  -- Genotype Scores
+    ∷ row 1005 (Shaped Scanner)  -- Scanner Data
+    ∷ row 1006 (Shaped (Block 4))  -- Call Rate
+    ∷ row 1007 (Shaped (Block 1))  -- Estimated Gender
+    ∷ row 1008 (Shaped (Block 4))  -- LogR Dev
+    ∷ row 1009 (Shaped (Block 4))  -- p10GC
+    ∷ row 1010 Value  -- DX
+    ∷ row 1011 (Shaped (Block 16))  -- Extended sample data
+    ∷ row 1012 (Shaped (SnpArray 4))  -- B Allele Frequencies
+    ∷ row 1013 (Shaped (SnpArray 4))  -- LogR Ratios
+    ∷ row 1014 (Shaped (Block 6))  -- Intensity percentiles (X)
+    ∷ row 1015 (Shaped (Block 6))  -- Intensity percentiles (Y)
+    ∷ row 1016 (Shaped Text)  -- Sentrix ID
     ∷ []
 
+-- the ids that other rules name
+abbrev pub numSnpsId : ℕ
+numSnpsId = 1
+
+abbrev pub normalizationTransformationsId : ℕ
+normalizationTransformationsId = 400
+
+abbrev pub rawXId : ℕ
+rawXId = 1000
+
+abbrev pub rawYId : ℕ
+rawYId = 1001
+
+abbrev pub genotypesId : ℕ
+genotypesId = 1002
+
+abbrev pub baseCallsId : ℕ
+baseCallsId = 1003
+
+abbrev pub genotypeScoresId : ℕ
+genotypeScoresId = 1004
+
 unfoldable pub listingIn : List Row → ℕ → Listing
-listingIn [] k = Unlisted
-listingIn (r ∷ rs) k = pick (eqb k (r .id)) (Listed (r .stored)) (listingIn rs k)
+listingIn [] id = Unlisted
+listingIn (r ∷ rs) id = pick (eqb id (r .id)) (Listed (r .stored)) (listingIn rs id)
 
 -- what Table 3 says of an id
 unfoldable pub listingOf : ℕ → Listing
 unfolding listingIn
-listingOf k = listingIn rows k
+listingOf id = listingIn rows id
 
 abbrev pub isListed : Listing → Bool
-isListed (Listed v) = true
+isListed (Listed stored) = true
 isListed Unlisted = false
 
--- the end of the string at place p: one length byte, then that many
+-- a string is one length byte, then that many: the end of the one at this place
 unfoldable pub stringEnd : ℕ → Check ℕ
-stringEnd p = do
-  l ← need p (p + 1)
-  _ ← need (p + 1) (p + 1 + le 1 l p)
-  done (p + 1 + le 1 l p)
+stringEnd place = do
+  bytes ← need place (place + 1)
+  _ ← need (place + 1) (place + 1 + le 1 bytes place)
+  done (place + 1 + le 1 bytes place)
 
--- the end of the scanner data whose name ends at place p: green, red, version, user
+-- the scanner data behind the name, which ends at this place: green, red, version, user
 unfoldable pub scannerRest : ℕ → Check ℕ
-scannerRest p = do
-  _ ← need p (p + 4)
-  _ ← need (p + 4) (p + 8)
-  user ← stringEnd (p + 8)
+scannerRest place = do
+  _ ← need place (place + 4)
+  _ ← need (place + 4) (place + 8)
+  user ← stringEnd (place + 8)
   stringEnd user
 
--- the end of the scanner data at place p: the name, then the rest
+-- the end of the scanner data at this place: the name, then the rest
 unfoldable pub scannerEnd : ℕ → Check ℕ
-scannerEnd p = do
-  green ← stringEnd p
+scannerEnd place = do
+  green ← stringEnd place
   scannerRest green
 
--- the count of the array at place p
+-- an array is an i32 count, then elements: the count of the one at this place
 abbrev pub countField : ℕ → ℕ → Field
-countField p n = signedField 4 p n
+countField place elements = signedField 4 place elements
 
 unfoldable pub arrayCount : ℕ → Check ℕ
-arrayCount p = do
-  l ← need p (p + 4)
-  must (countField p (le 4 l p)) NotNegative 9
-  done (le 4 l p)
+arrayCount place = do
+  bytes ← need place (place + 4)
+  must (countField place (le 4 bytes place)) NotNegative 9
+  done (le 4 bytes place)
 
--- the data of entry d: n bytes from place p on, which count as m
+-- the data of an entry: where they stand, and their count
 abbrev pub itemData : Entry → ℕ → ℕ → ℕ → ItemData
-itemData d p n m = record { id = d .id; start = p; size = n; count = m }
+itemData entry start size count = record { code = entry .id; count = count; start = start; size = size }
 
--- the bytes from place p to e
-abbrev pub upTo : Entry → ℕ → ℕ → ItemData
-upTo d p e = itemData d p (e - p) (e - p)
+-- the bytes from start to end, which are counted
+abbrev pub itemUpTo : Entry → ℕ → ℕ → ItemData
+itemUpTo entry start end = itemData entry start (end - start) (end - start)
 
 -- the end of an item's data
 abbrev pub itemEnd : ItemData → ℕ
-itemEnd q = q .start + q .size
+itemEnd item = item .start + item .size
 
--- the n elements, w bytes each, of the array at d's offset
+-- so many elements, each of this width, of the array at the entry's offset
 unfoldable pub elementsOf : ℕ → Entry → ℕ → Check ItemData
-elementsOf w d n = do
-  _ ← need (d .offset + 4) (d .offset + 4 + w * n)
-  done (itemData d (d .offset + 4) (w * n) n)
+elementsOf width entry elements = do
+  _ ← need (entry .offset + 4) (entry .offset + 4 + width * elements)
+  done (itemData entry (entry .offset + 4) (width * elements) elements)
 
--- the count m of the array at place p is the value of id 1 in the table h of n entries
+-- the count of the array at this place equals id 1's value: a refusal of looking up id 1 is passed on, unequal 9
 unfoldable pub snpCheck : List ℕ → ℕ → ℕ → ℕ → Check (Unit {0})
-snpCheck h n p m = do
-  snps ← entryWith h n 1
-  must (countField p m) (EqualTo (snps .offset)) 9
+snpCheck table count place elements = do
+  snps ← entryWith table count numSnpsId
+  must (countField place elements) (EqualTo (snps .offset)) 9
 
--- what stands at d's offset, from the front, in the table h of n entries
+-- what stands at the entry's offset, from the front
 unfoldable pub shapeCheck : Shape → List ℕ → ℕ → Entry → Check ItemData
-shapeCheck Text h n d = do
-  e ← stringEnd (d .offset)
-  done (upTo d (d .offset + 1) e)
-shapeCheck (Array w) h n d = do
-  m ← arrayCount (d .offset)
-  elementsOf w d m
-shapeCheck (SnpArray w) h n d = do
-  m ← arrayCount (d .offset)
-  snpCheck h n (d .offset) m
-  elementsOf w d m
-shapeCheck Scanner h n d = do
-  e ← scannerEnd (d .offset)
-  done (upTo d (d .offset) e)
-shapeCheck (Block m) h n d = do
-  _ ← need (d .offset) (d .offset + m)
-  done (itemData d (d .offset) m m)
+shapeCheck Text table count entry = do
+  end ← stringEnd (entry .offset)
+  done (itemUpTo entry (entry .offset + 1) end)
+shapeCheck (Array width) table count entry = do
+  elements ← arrayCount (entry .offset)
+  elementsOf width entry elements
+shapeCheck (SnpArray width) table count entry = do
+  elements ← arrayCount (entry .offset)
+  snpCheck table count (entry .offset) elements
+  elementsOf width entry elements
+shapeCheck Scanner table count entry = do
+  end ← scannerEnd (entry .offset)
+  done (itemUpTo entry (entry .offset) end)
+shapeCheck (Block size) table count entry = do
+  _ ← need (entry .offset) (entry .offset + size)
+  done (itemData entry (entry .offset) size size)
 
--- an item at d's offset, which is not negative and not below the table's end
+-- offset negative or below the table's end 6, then what stands there
 unfoldable pub shapedCheck : Shape → List ℕ → ℕ → Entry → Check ItemData
-shapedCheck k h n d = do
-  must (offsetField d) (AtLeast (tableEnd n)) 6
-  shapeCheck k h n d
+shapedCheck shape table count entry = do
+  must (offsetField entry) (AtLeast (tableEnd count)) 6
+  shapeCheck shape table count entry
 
 -- a value is the offset field itself
 abbrev pub valueData : Entry → ItemData
-valueData d = itemData d (d .place + 2) 4 4
+valueData entry = itemData entry (entry .place + 2) 4 4
 
--- the checks of entry d, whose data are stored so, in the table h of n entries
+-- the checks of an entry whose data are stored so, in a table of so many entries
 unfoldable pub itemCheck : Stored → List ℕ → ℕ → Entry → Check ItemData
-itemCheck Value h n d = done (valueData d)
-itemCheck (Shaped k) h n d = shapedCheck k h n d
-
--- what each case stands for
-abbrev pub end : Ended.Ended → Outcome ℕ
-end (ended.At e) = passed e
-end (ended.Short p m) = short (record { start = p; end = m }) 0
-
-abbrev pub count : Counted.Counted → Outcome ℕ
-count (counted.Count n) = passed n
-count (counted.Bad w) = failed w 0
-count (counted.Short p m) = short (record { start = p; end = m }) 0
-
-abbrev pub item : Item.Item → Outcome ItemData
-item (found.At q) = passed q
-item (found.Bad w) = failed w 0
-item (found.Short p m) = short (record { start = p; end = m }) 0
+itemCheck Value table count entry = done (valueData entry)
+itemCheck (Shaped shape) table count entry = shapedCheck shape table count entry

@@ -3,8 +3,4 @@ pub mod Entry
 pub mod Item
 pub mod Judge
 pub mod Lookup
-pub mod Genotype
-pub mod Snp
-pub mod Snps
-pub mod Transformation
-pub mod Normalise
+pub mod Answers

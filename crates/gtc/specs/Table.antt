@@ -1,27 +1,57 @@
--- GTC: the checks of the header and the table of contents, in document 01's order.
+-- GTC: the header and the table of contents, in document 01's order.
 use Prim.Native.Nat.{ℕ, _+_, _*_}
 use mathlib.Core.List.{List}
 use Rattle.reading.specs.Number.{le}
+use Rattle.reading.specs.declared.check.Field.{Field}
 use Rattle.reading.specs.declared.check.Rule.the-variants.{Exactly, NotNegative, AtMost}
-use Rattle.reading.specs.Check.{Check, Outcome, passed, failed, short, signedField, unsignedField, done, must, need, _>>=_, _>>_}
-use Rattle.gtc.specs.declared.table.TableRead.{TableRead}
-use Rattle.gtc.specs.declared.table.TableRead.the-variants.{Good, Bad, Short}
+use Rattle.reading.specs.Check.{Check, signedField, unsignedField, done, must, need, _>>=_, _>>_}
 
--- the mark "gtc", lowest byte first, and the version
-unfoldable pub markCheck : ℕ → ℕ → Check (Unit {0})
-markCheck mark version = do
-  must (unsignedField 3 0 mark) (Exactly 0x637467) 2
-  must (unsignedField 1 3 version) (Exactly 5) 3
+-- the header: the identifier, the version, the number of entries
+abbrev pub headerSize : ℕ
+headerSize = 8
 
--- the number of entries
+abbrev pub identifierField : ℕ → Field
+identifierField identifier = unsignedField 3 0 identifier
+
+abbrev pub versionField : ℕ → Field
+versionField version = unsignedField 1 3 version
+
+abbrev pub entryCountField : ℕ → Field
+entryCountField count = signedField 4 4 count
+
+-- "gtc", lowest byte first
+abbrev pub gtcIdentifier : ℕ
+gtcIdentifier = 0x637467
+
+abbrev pub gtcVersion : ℕ
+gtcVersion = 5
+
+-- "gtc" 2, version byte not 5: 3
+unfoldable pub identifierCheck : ℕ → ℕ → Check (Unit {0})
+identifierCheck identifier version = do
+  must (identifierField identifier) (Exactly gtcIdentifier) 2
+  must (versionField version) (Exactly gtcVersion) 3
+
+abbrev pub mostEntries : ℕ
+mostEntries = 999
+
+-- the entry count is negative 4, over 999 5
 unfoldable pub countCheck : ℕ → Check (Unit {0})
 countCheck count = do
-  must (signedField 4 4 count) NotNegative 4
-  must (signedField 4 4 count) (AtMost 999) 5
+  must (entryCountField count) NotNegative 4
+  must (entryCountField count) (AtMost mostEntries) 5
 
--- the end of a table of n entries
+-- an entry is a u16 id and an i32 offset
+abbrev pub entrySize : ℕ
+entrySize = 6
+
+-- where entry i, counted from 0, stands
+abbrev pub entryPlace : ℕ → ℕ
+entryPlace i = headerSize + entrySize * i
+
+-- the end of a table of so many entries
 abbrev pub tableEnd : ℕ → ℕ
-tableEnd n = 8 + 6 * n
+tableEnd count = entryPlace count
 
 -- a table of contents: its number of entries, and the bytes up to its end
 pub record Table : Type 0 where
@@ -31,19 +61,13 @@ pub record Table : Type 0 where
 -- the table's checks
 unfoldable pub table : Check Table
 table = do
-  h ← need 0 8
-  markCheck (le 3 h 0) (le 1 h 3)
-  countCheck (le 4 h 4)
-  l ← need 8 (tableEnd (le 4 h 4))
-  done (record { count = le 4 h 4; upTo = l })
+  header ← need 0 headerSize
+  identifierCheck (le 3 header 0) (le 1 header 3)
+  countCheck (le 4 header 4)
+  upTo ← need headerSize (tableEnd (le 4 header 4))
+  done (record { count = le 4 header 4; upTo = upTo })
 
 unfoldable pub entryCount : Check ℕ
 entryCount = do
   t ← table
   done (t .count)
-
--- what each case stands for
-abbrev pub read : TableRead → Outcome ℕ
-read (Good n) = passed n
-read (Bad w) = failed w 0
-read (Short p m) = short (record { start = p; end = m }) 0

@@ -1,17 +1,21 @@
 // An entry of the table of contents, and the one entry with an id.
+use crate::table::entry_place;
 use reading::check::Field;
-use reading::check::Rule;
 use reading::check::Test;
+use reading::check::failing;
+use reading::check::signed_field;
+use reading::check::unsigned_field;
 use reading::number::le16;
 use reading::number::le32;
 ghost use mathlib.Core.Path.{_≡_};
 ghost use mathlib.Core.List.{List};
-ghost use Prim.Native.Nat.{ℕ, _+_, _-_, _*_, _≤_, _<_};
+ghost use Prim.Native.Nat.{ℕ, _+_, _-_, _≤_, _<_};
 ghost use lib.ListN.{length};
-ghost use Rattle.reading.specs.Check.{run, failing};
+ghost use Rattle.reading.specs.Check.{run};
 ghost use Rattle.reading.specs.Entries.{firstWith};
-ghost use Rattle.gtc.specs.Table.{tableEnd};
-ghost use Rattle.gtc.specs.Entry.{entryPlace, entryOf, hasId, entryWith, entryFound};
+ghost use Rattle.gtc.specs.Table.{entryPlace, tableEnd};
+ghost use Rattle.gtc.specs.Entry.{entryOf, idField, offsetField, hasId, entryWith};
+ghost use Rattle.gtc.specs.Answers.{outcomeOfEntryFound};
 
 // An entry with its place; the signed offset as its unsigned number.
 pub(crate) struct Entry {
@@ -23,7 +27,22 @@ pub(crate) struct Entry {
 // The entry with an id, or the test that fails.
 pub(crate) enum EntryFound {
     At(Entry),
-    Bad(Test),
+    Failed(Test),
+}
+
+// An entry's id.
+pub(crate) fn id_field(d: Entry) -> Field
+    ensures { λ r. ⌜ r ≡ idField d ⌝ }
+{
+    unsigned_field(2, d.place, d.id as u64)
+}
+
+// An entry's offset.
+pub(crate) fn offset_field(d: Entry) -> Field
+    requires { ⌜ d .place < 0x8000000000000000 ⌝ }
+    ensures { λ r. ⌜ r ≡ offsetField d ⌝ }
+{
+    signed_field(4, d.place + 2, d.offset as u64)
 }
 
 // Entry i, counted from 0.
@@ -31,7 +50,7 @@ pub(crate) fn entry_at(h: &[u8], i: usize) -> Entry
     requires { ⌜ tableEnd (i + 1) ≤ length (now h) ⌝ }
     ensures { λ r. ⌜ (r ≡ entryOf (now (h .entry)) (entryPlace i)) × (r .place ≡ entryPlace i) ⌝ }
 {
-    let p = 8 + 6 * i;
+    let p = entry_place(i);
     Entry {
         place: p,
         id: le16(h, p),
@@ -44,7 +63,7 @@ fn has_id(h: &[u8], id: u16, i: usize) -> bool
     requires { ⌜ tableEnd (i + 1) ≤ length (now h) ⌝ }
     ensures { λ r. ⌜ r ≡ hasId (now (h .entry)) id i ⌝ }
 {
-    let start = 8 + 6 * i;
+    let start = entry_place(i);
     let end = start + 2;
     le16(&h[start..end], 0) == id
 }
@@ -64,34 +83,18 @@ pub(crate) fn first_id(h: &[u8], id: u16, from: usize, n: usize) -> usize
     i
 }
 
-// A test of no field of the file, which fails.
-fn failing(number: u8) -> Test
-    ensures { λ r. ⌜ r ≡ failing number ⌝ }
-{
-    Test {
-        field: Field {
-            place: 0,
-            width: 0,
-            sign: false,
-            value: 0,
-        },
-        rule: Rule::Other(0, false),
-        number,
-    }
-}
-
 // The entry with this id in a table of n entries.
 pub(crate) fn entry_with(h: &[u8], n: usize, id: u16) -> EntryFound
     requires { ⌜ tableEnd n ≤ length (now h) ⌝ }
-    ensures { λ r. ⌜ ((l : List ℕ) → entryFound r ≡ run (entryWith (now (h .entry)) n id) l) ⌝ }
+    ensures { λ r. ⌜ ((l : List ℕ) → outcomeOfEntryFound r ≡ run (entryWith (now (h .entry)) n id) l) ⌝ }
 {
     let i = first_id(h, id, 0, n);
     if n <= i {
-        return EntryFound::Bad(failing(7));
+        return EntryFound::Failed(failing(7));
     }
     let j = first_id(h, id, i + 1, n);
     if j != n {
-        return EntryFound::Bad(failing(8));
+        return EntryFound::Failed(failing(8));
     }
     EntryFound::At(entry_at(h, i))
 }

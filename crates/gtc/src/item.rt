@@ -2,10 +2,17 @@
 use crate::entry::Entry;
 use crate::entry::EntryFound;
 use crate::entry::entry_with;
+use crate::entry::offset_field;
+use crate::table::Counted;
+use crate::table::table_end;
+use reading::check::Ended;
 use reading::check::Field;
 use reading::check::Rule;
 use reading::check::Test;
 use reading::check::Tested;
+use reading::check::failed;
+use reading::check::signed_field;
+use reading::item::ItemData;
 use reading::number::byte;
 use reading::number::le32;
 ghost use mathlib.Core.Path.{_≡_};
@@ -14,11 +21,28 @@ ghost use Prim.Native.Nat.{ℕ, _+_, _*_, _≤_, _<_};
 ghost use lib.ListN.{length};
 ghost use Rattle.reading.specs.declared.check.Rule.the-variants.{AtLeast, EqualTo};
 ghost use Rattle.reading.specs.Check.{passed, run, must};
-ghost use Rattle.reading.specs.Answers.{outcomeOfTested};
+ghost use Rattle.reading.specs.Answers.{outcomeOfTested, outcomeOfEnded};
 ghost use Rattle.gtc.specs.Table.{tableEnd};
 ghost use Rattle.gtc.specs.Entry.{offsetField};
 ghost use Rattle.gtc.specs.declared.item.Shape.the-variants.{Text, Array, SnpArray, Scanner, Block};
-ghost use Rattle.gtc.specs.Item.{listingOf, isListed, stringEnd, scannerRest, scannerEnd, countField, arrayCount, elementsOf, snpCheck, shapeCheck, shapedCheck, itemCheck, upTo, end, count, item};
+ghost use Rattle.gtc.specs.Item.{listingOf, isListed, stringEnd, scannerRest, scannerEnd, countField, arrayCount, elementsOf, snpCheck};
+ghost use Rattle.gtc.specs.Item.{itemUpTo, shapeCheck, shapedCheck, itemCheck};
+ghost use Rattle.gtc.specs.Answers.{outcomeOfCounted, outcomeOfItemRead};
+
+// The ids of Table 3 that other rules name.
+pub(crate) const NUM_SNPS_ID: u16 = 1;
+
+pub const NORMALIZATION_TRANSFORMATIONS_ID: u16 = 400;
+
+pub const RAW_X_ID: u16 = 1000;
+
+pub const RAW_Y_ID: u16 = 1001;
+
+pub const GENOTYPES_ID: u16 = 1002;
+
+pub const BASE_CALLS_ID: u16 = 1003;
+
+pub const GENOTYPE_SCORES_ID: u16 = 1004;
 
 // What stands at an item's offset: a string, an array with the width of its elements, an array with one element for each SNP, the scanner
 // data, or a block of so many bytes.
@@ -42,31 +66,10 @@ pub(crate) enum Listing {
     Unlisted,
 }
 
-// An item's data: where they stand, with the id and the count, which is an array's elements, else bytes.
-pub struct ItemData {
-    pub id: u16,
-    pub start: usize,
-    pub size: usize,
-    pub count: u32,
-}
-
-// Where something ends, or the bytes of it that are missing, by their start and end.
-pub(crate) enum Ended {
-    At(usize),
-    Short(usize, usize),
-}
-
-// The count of an array, the test that fails, or the bytes that are missing.
-pub(crate) enum Counted {
-    Count(u32),
-    Bad(Test),
-    Short(usize, usize),
-}
-
 // What an entry's checks find: its data, the first test that fails, or the bytes that are missing.
-pub(crate) enum Item {
+pub(crate) enum ItemRead {
     At(ItemData),
-    Bad(Test),
+    Failed(Test),
     Short(usize, usize),
 }
 
@@ -121,8 +124,8 @@ pub(crate) fn is_listed(id: u16) -> bool
 // The end of the string at place p: one length byte, then that many.
 fn string_end(s: &[u8], p: usize) -> Ended
     requires { ⌜ p < 0x8000000000000000 ⌝ }
-    ensures { λ r. ⌜ end r ≡ run (stringEnd p) (now (s .entry)) ⌝ }
-    ensures { λ r. ⌜ ((e : ℕ) → end r ≡ passed e → (p < e) × (e ≤ p + 256) × (e ≤ length (now (s .entry)))) ⌝ }
+    ensures { λ r. ⌜ outcomeOfEnded r ≡ run (stringEnd p) (now (s .entry)) ⌝ }
+    ensures { λ r. ⌜ ((e : ℕ) → outcomeOfEnded r ≡ passed e → (p < e) × (e ≤ p + 256) × (e ≤ length (now (s .entry)))) ⌝ }
 {
     let first = p + 1;
     if s.len() < first {
@@ -138,8 +141,8 @@ fn string_end(s: &[u8], p: usize) -> Ended
 // The end of the scanner data whose name ends here.
 fn scanner_rest(s: &[u8], green: usize) -> Ended
     requires { ⌜ green ≤ length (now s) ⌝ }
-    ensures { λ r. ⌜ end r ≡ run (scannerRest green) (now (s .entry)) ⌝ }
-    ensures { λ r. ⌜ ((e : ℕ) → end r ≡ passed e → (green < e) × (e ≤ green + 600) × (e ≤ length (now (s .entry)))) ⌝ }
+    ensures { λ r. ⌜ outcomeOfEnded r ≡ run (scannerRest green) (now (s .entry)) ⌝ }
+    ensures { λ r. ⌜ ((e : ℕ) → outcomeOfEnded r ≡ passed e → (green < e) × (e ≤ green + 600) × (e ≤ length (now (s .entry)))) ⌝ }
 {
     let red = green + 4;
     if s.len() < red {
@@ -150,6 +153,7 @@ fn scanner_rest(s: &[u8], green: usize) -> Ended
         return Ended::Short(red, version);
     }
     match string_end(s, version) {
+        Ended::Failed(t) => Ended::Failed(t),
         Ended::Short(p, m) => Ended::Short(p, m),
         Ended::At(user) => string_end(s, user),
     }
@@ -157,18 +161,26 @@ fn scanner_rest(s: &[u8], green: usize) -> Ended
 
 fn scanner_end(s: &[u8], p: usize) -> Ended
     requires { ⌜ p < 0x8000000000000000 ⌝ }
-    ensures { λ r. ⌜ end r ≡ run (scannerEnd p) (now (s .entry)) ⌝ }
-    ensures { λ r. ⌜ ((e : ℕ) → end r ≡ passed e → (p < e) × (e ≤ p + 1000) × (e ≤ length (now (s .entry)))) ⌝ }
+    ensures { λ r. ⌜ outcomeOfEnded r ≡ run (scannerEnd p) (now (s .entry)) ⌝ }
+    ensures { λ r. ⌜ ((e : ℕ) → outcomeOfEnded r ≡ passed e → (p < e) × (e ≤ p + 1000) × (e ≤ length (now (s .entry)))) ⌝ }
 {
     match string_end(s, p) {
+        Ended::Failed(t) => Ended::Failed(t),
         Ended::Short(p, m) => Ended::Short(p, m),
         Ended::At(green) => scanner_rest(s, green),
     }
 }
 
+// The count of the array at place p.
+fn count_field(p: usize, n: u32) -> Field
+    ensures { λ r. ⌜ r ≡ countField p n ⌝ }
+{
+    signed_field(4, p, n as u64)
+}
+
 fn array_count(s: &[u8], p: usize) -> Counted
     requires { ⌜ p < 0x8000000000000000 ⌝ }
-    ensures { λ r. ⌜ count r ≡ run (arrayCount p) (now (s .entry)) ⌝ }
+    ensures { λ r. ⌜ outcomeOfCounted r ≡ run (arrayCount p) (now (s .entry)) ⌝ }
 {
     let first = p + 4;
     if s.len() < first {
@@ -176,13 +188,8 @@ fn array_count(s: &[u8], p: usize) -> Counted
     }
     let n = le32(s, p);
     if 0x8000_0000 <= n {
-        return Counted::Bad(Test {
-            field: Field {
-                place: p,
-                width: 4,
-                sign: true,
-                value: n as u64,
-            },
+        return Counted::Failed(Test {
+            field: count_field(p, n),
             rule: Rule::NotNegative,
             number: 9,
         });
@@ -191,20 +198,20 @@ fn array_count(s: &[u8], p: usize) -> Counted
 }
 
 // The n elements, w bytes each, of the array at d's offset.
-fn elements_of(s: &[u8], w: u8, d: Entry, n: u32) -> Item
-    ensures { λ r. ⌜ item r ≡ run (elementsOf w d n) (now (s .entry)) ⌝ }
+fn elements_of(s: &[u8], w: u8, d: Entry, n: u32) -> ItemRead
+    ensures { λ r. ⌜ outcomeOfItemRead r ≡ run (elementsOf w d n) (now (s .entry)) ⌝ }
 {
     let start = d.offset as usize + 4;
     let size = w as usize * n as usize;
     let e = start + size;
     if s.len() < e {
-        return Item::Short(start, e);
+        return ItemRead::Short(start, e);
     }
-    Item::At(ItemData {
-        id: d.id,
+    ItemRead::At(ItemData {
+        code: d.id,
+        count: n,
         start,
         size,
-        count: n,
     })
 }
 
@@ -212,25 +219,11 @@ fn elements_of(s: &[u8], w: u8, d: Entry, n: u32) -> Item
 fn count_tests(p: usize, n: u32, snps: u32) -> Tested
     ensures { λ r. ⌜ ((l : List ℕ) → outcomeOfTested r ≡ run (must (countField p n) (EqualTo snps) 9) l) ⌝ }
 {
-    let field = Field {
-        place: p,
-        width: 4,
-        sign: true,
-        value: n as u64,
-    };
     if 0x8000_0000 <= n {
-        return Tested::Failed(Test {
-            field,
-            rule: Rule::EqualTo(snps as u64),
-            number: 9,
-        });
+        return failed(count_field(p, n), Rule::EqualTo(snps as u64), 9);
     }
     if n != snps {
-        return Tested::Failed(Test {
-            field,
-            rule: Rule::EqualTo(snps as u64),
-            number: 9,
-        });
+        return failed(count_field(p, n), Rule::EqualTo(snps as u64), 9);
     }
     Tested::Passed
 }
@@ -240,92 +233,94 @@ fn snp_tests(h: &[u8], n: usize, p: usize, m: u32) -> Tested
     requires { ⌜ tableEnd n ≤ length (now h) ⌝ }
     ensures { λ r. ⌜ ((l : List ℕ) → outcomeOfTested r ≡ run (snpCheck (now (h .entry)) n p m) l) ⌝ }
 {
-    match entry_with(h, n, 1) {
-        EntryFound::Bad(t) => Tested::Failed(t),
+    match entry_with(h, n, NUM_SNPS_ID) {
+        EntryFound::Failed(t) => Tested::Failed(t),
         EntryFound::At(snps) => count_tests(p, m, snps.offset),
     }
 }
 
 // The bytes from place p to e.
-fn up_to(d: Entry, p: usize, e: usize) -> ItemData
+fn item_up_to(d: Entry, p: usize, e: usize) -> ItemData
     requires { ⌜ (p ≤ e) × (e ≤ p + 1000) ⌝ }
-    ensures { λ r. ⌜ r ≡ upTo d p e ⌝ }
+    ensures { λ r. ⌜ r ≡ itemUpTo d p e ⌝ }
 {
     ItemData {
-        id: d.id,
+        code: d.id,
+        count: (e - p) as u32,
         start: p,
         size: e - p,
-        count: (e - p) as u32,
     }
 }
 
-fn text_tests(s: &[u8], d: Entry) -> Item
-    ensures { λ r. ⌜ ((h : List ℕ) (n : ℕ) → item r ≡ run (shapeCheck Text h n d) (now (s .entry))) ⌝ }
+fn text_tests(s: &[u8], d: Entry) -> ItemRead
+    ensures { λ r. ⌜ ((h : List ℕ) (n : ℕ) → outcomeOfItemRead r ≡ run (shapeCheck Text h n d) (now (s .entry))) ⌝ }
 {
     let p = d.offset as usize;
     match string_end(s, p) {
-        Ended::Short(a, m) => Item::Short(a, m),
-        Ended::At(e) => Item::At(up_to(d, p + 1, e)),
+        Ended::Failed(t) => ItemRead::Failed(t),
+        Ended::Short(a, m) => ItemRead::Short(a, m),
+        Ended::At(e) => ItemRead::At(item_up_to(d, p + 1, e)),
     }
 }
 
-fn array_tests(s: &[u8], w: u8, d: Entry) -> Item
-    ensures { λ r. ⌜ ((h : List ℕ) (n : ℕ) → item r ≡ run (shapeCheck (Array w) h n d) (now (s .entry))) ⌝ }
+fn array_tests(s: &[u8], w: u8, d: Entry) -> ItemRead
+    ensures { λ r. ⌜ ((h : List ℕ) (n : ℕ) → outcomeOfItemRead r ≡ run (shapeCheck (Array w) h n d) (now (s .entry))) ⌝ }
 {
     match array_count(s, d.offset as usize) {
-        Counted::Short(a, m) => Item::Short(a, m),
-        Counted::Bad(t) => Item::Bad(t),
+        Counted::Short(a, m) => ItemRead::Short(a, m),
+        Counted::Failed(t) => ItemRead::Failed(t),
         Counted::Count(m) => elements_of(s, w, d, m),
     }
 }
 
-fn snp_array_tests(s: &[u8], h: &[u8], n: usize, w: u8, d: Entry) -> Item
+fn snp_array_tests(s: &[u8], h: &[u8], n: usize, w: u8, d: Entry) -> ItemRead
     requires { ⌜ tableEnd n ≤ length (now h) ⌝ }
-    ensures { λ r. ⌜ item r ≡ run (shapeCheck (SnpArray w) (now (h .entry)) n d) (now (s .entry)) ⌝ }
+    ensures { λ r. ⌜ outcomeOfItemRead r ≡ run (shapeCheck (SnpArray w) (now (h .entry)) n d) (now (s .entry)) ⌝ }
 {
     let p = d.offset as usize;
     match array_count(s, p) {
-        Counted::Short(a, m) => Item::Short(a, m),
-        Counted::Bad(t) => Item::Bad(t),
+        Counted::Short(a, m) => ItemRead::Short(a, m),
+        Counted::Failed(t) => ItemRead::Failed(t),
         Counted::Count(m) => {
             if let Tested::Failed(t) = snp_tests(h, n, p, m) {
-                return Item::Bad(t);
+                return ItemRead::Failed(t);
             }
             elements_of(s, w, d, m)
         }
     }
 }
 
-fn scanner_tests(s: &[u8], d: Entry) -> Item
-    ensures { λ r. ⌜ ((h : List ℕ) (n : ℕ) → item r ≡ run (shapeCheck Scanner h n d) (now (s .entry))) ⌝ }
+fn scanner_tests(s: &[u8], d: Entry) -> ItemRead
+    ensures { λ r. ⌜ ((h : List ℕ) (n : ℕ) → outcomeOfItemRead r ≡ run (shapeCheck Scanner h n d) (now (s .entry))) ⌝ }
 {
     let p = d.offset as usize;
     match scanner_end(s, p) {
-        Ended::Short(a, m) => Item::Short(a, m),
-        Ended::At(e) => Item::At(up_to(d, p, e)),
+        Ended::Failed(t) => ItemRead::Failed(t),
+        Ended::Short(a, m) => ItemRead::Short(a, m),
+        Ended::At(e) => ItemRead::At(item_up_to(d, p, e)),
     }
 }
 
-fn block_tests(s: &[u8], m: u8, d: Entry) -> Item
-    ensures { λ r. ⌜ ((h : List ℕ) (n : ℕ) → item r ≡ run (shapeCheck (Block m) h n d) (now (s .entry))) ⌝ }
+fn block_tests(s: &[u8], m: u8, d: Entry) -> ItemRead
+    ensures { λ r. ⌜ ((h : List ℕ) (n : ℕ) → outcomeOfItemRead r ≡ run (shapeCheck (Block m) h n d) (now (s .entry))) ⌝ }
 {
     let start = d.offset as usize;
     let size = m as usize;
     let e = start + size;
     if s.len() < e {
-        return Item::Short(start, e);
+        return ItemRead::Short(start, e);
     }
-    Item::At(ItemData {
-        id: d.id,
+    ItemRead::At(ItemData {
+        code: d.id,
+        count: m as u32,
         start,
         size,
-        count: m as u32,
     })
 }
 
-fn shape_tests(s: &[u8], h: &[u8], n: usize, k: Shape, d: Entry) -> Item
+fn shape_tests(s: &[u8], h: &[u8], n: usize, k: Shape, d: Entry) -> ItemRead
     requires { ⌜ tableEnd n ≤ length (now h) ⌝ }
-    ensures { λ r. ⌜ item r ≡ run (shapeCheck k (now (h .entry)) n d) (now (s .entry)) ⌝ }
+    ensures { λ r. ⌜ outcomeOfItemRead r ≡ run (shapeCheck k (now (h .entry)) n d) (now (s .entry)) ⌝ }
 {
     match k {
         Shape::Text => text_tests(s, d),
@@ -341,51 +336,37 @@ fn offset_tests(n: usize, d: Entry) -> Tested
     requires { ⌜ (tableEnd n < 0x8000000000000000) × (d .place < 0x8000000000000000) ⌝ }
     ensures { λ r. ⌜ ((l : List ℕ) → outcomeOfTested r ≡ run (must (offsetField d) (AtLeast (tableEnd n)) 6) l) ⌝ }
 {
-    let field = Field {
-        place: d.place + 2,
-        width: 4,
-        sign: true,
-        value: d.offset as u64,
-    };
-    let lowest = 8 + 6 * n;
+    let lowest = table_end(n);
     if 0x8000_0000 <= d.offset {
-        return Tested::Failed(Test {
-            field,
-            rule: Rule::AtLeast(lowest as u64),
-            number: 6,
-        });
+        return failed(offset_field(d), Rule::AtLeast(lowest as u64), 6);
     }
     if (d.offset as usize) < lowest {
-        return Tested::Failed(Test {
-            field,
-            rule: Rule::AtLeast(lowest as u64),
-            number: 6,
-        });
+        return failed(offset_field(d), Rule::AtLeast(lowest as u64), 6);
     }
     Tested::Passed
 }
 
-fn shaped_tests(s: &[u8], h: &[u8], n: usize, k: Shape, d: Entry) -> Item
+fn shaped_tests(s: &[u8], h: &[u8], n: usize, k: Shape, d: Entry) -> ItemRead
     requires { ⌜ (tableEnd n ≤ length (now h)) × (d .place < 0x8000000000000000) ⌝ }
-    ensures { λ r. ⌜ item r ≡ run (shapedCheck k (now (h .entry)) n d) (now (s .entry)) ⌝ }
+    ensures { λ r. ⌜ outcomeOfItemRead r ≡ run (shapedCheck k (now (h .entry)) n d) (now (s .entry)) ⌝ }
 {
     if let Tested::Failed(t) = offset_tests(n, d) {
-        return Item::Bad(t);
+        return ItemRead::Failed(t);
     }
     shape_tests(s, h, n, k, d)
 }
 
 // The checks of entry d, whose data are stored so, in the table h of n entries.
-pub(crate) fn item_tests(s: &[u8], h: &[u8], n: usize, v: Stored, d: Entry) -> Item
+pub(crate) fn item_tests(s: &[u8], h: &[u8], n: usize, v: Stored, d: Entry) -> ItemRead
     requires { ⌜ (tableEnd n ≤ length (now h)) × (d .place < 0x8000000000000000) ⌝ }
-    ensures { λ r. ⌜ item r ≡ run (itemCheck v (now (h .entry)) n d) (now (s .entry)) ⌝ }
+    ensures { λ r. ⌜ outcomeOfItemRead r ≡ run (itemCheck v (now (h .entry)) n d) (now (s .entry)) ⌝ }
 {
     match v {
-        Stored::Value => Item::At(ItemData {
-            id: d.id,
+        Stored::Value => ItemRead::At(ItemData {
+            code: d.id,
+            count: 4,
             start: d.place + 2,
             size: 4,
-            count: 4,
         }),
         Stored::Shaped(k) => shaped_tests(s, h, n, k, d),
     }

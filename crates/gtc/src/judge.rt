@@ -2,20 +2,25 @@
 use crate::entry::Entry;
 use crate::entry::entry_at;
 use crate::entry::first_id;
-use crate::item::Item;
+use crate::entry::id_field;
+use crate::item::ItemRead;
 use crate::item::Listing;
 use crate::item::Stored;
 use crate::item::is_listed;
 use crate::item::item_tests;
 use crate::item::listing_of;
-use crate::table::TableRead;
+use crate::table::Counted;
+use crate::table::entry_place;
 use crate::table::read_table;
+use crate::table::table_end;
+use reading::check::Ended;
 use reading::check::Explanation;
-use reading::check::Field;
 use reading::check::Rule;
 use reading::check::Test;
 use reading::number::le16;
 use reading::order::larger;
+use reading::verdict;
+use reading::verdict::verdict_of;
 ghost use mathlib.Core.Path.{_≡_};
 ghost use Prim.Native.Nat.{_+_, _≤_, _<_};
 ghost use lib.ListN.{length};
@@ -24,11 +29,15 @@ ghost use Rattle.reading.specs.Number.{le};
 ghost use Rattle.reading.specs.Check.{run, answer};
 ghost use Rattle.reading.specs.Entries.{inOrder};
 ghost use Rattle.reading.specs.Explain.{explanationOf};
-ghost use Rattle.gtc.specs.Table.{tableEnd};
-ghost use Rattle.gtc.specs.Entry.{entryPlace};
+ghost use Rattle.reading.specs.Answers.{outcomeOfEnded};
+ghost use Rattle.gtc.specs.Table.{entryPlace, tableEnd};
 ghost use Rattle.gtc.specs.declared.item.Listing.the-variants.{Listed};
 ghost use Rattle.gtc.specs.Item.{listingOf, isListed};
-ghost use Rattle.gtc.specs.Judge.{idAmong, judgeAs, judgeEntry, unjudgedAmong, judgeTable, judging, judgedEntry, verdict};
+ghost use Rattle.gtc.specs.Judge.{isEarlier, judgeAs, judgeEntry, unjudgedAmong, judgeTable, judging};
+ghost use Rattle.gtc.specs.Answers.{answerOfVerdict};
+
+// The requirement that is no comparison with a number: an id that no earlier entry has.
+const NEW_ID: u8 = 1;
 
 // What judging finds: the file is whole, with its extent and the number of entries that are not judged; or the refusal and its entry.
 pub enum Verdict {
@@ -36,55 +45,41 @@ pub enum Verdict {
     Refused { number: u8, entry: usize },
 }
 
-// What judging an entry finds: the end of its item (0 where it is not judged), the first test that fails, or the bytes that are missing, by
-// their start and end.
-pub(crate) enum Judged {
-    End(usize),
-    Bad(Test),
-    Short(usize, usize),
-}
-
-// One of the first n entries has this id.
-fn id_among(h: &[u8], id: u16, n: usize) -> bool
-    requires { ⌜ tableEnd n ≤ length (now h) ⌝ }
-    ensures { λ r. ⌜ r ≡ idAmong (now (h .entry)) id n ⌝ }
+// One of the first i entries has this id.
+fn is_earlier(h: &[u8], id: u16, i: usize) -> bool
+    requires { ⌜ tableEnd i ≤ length (now h) ⌝ }
+    ensures { λ r. ⌜ r ≡ isEarlier (now (h .entry)) id i ⌝ }
 {
-    first_id(h, id, 0, n) < n
+    first_id(h, id, 0, i) < i
 }
 
 // Judging entry d, which is entry i and has an id that is listed, its data stored so.
-fn judge_listed(s: &[u8], h: &[u8], n: usize, i: usize, v: Stored, d: Entry) -> Judged
+fn judge_listed(s: &[u8], h: &[u8], n: usize, i: usize, v: Stored, d: Entry) -> Ended
     requires { ⌜ (tableEnd n ≤ length (now h)) × (i + 1 ≤ n) × (d .place < 0x8000000000000000) ⌝ }
-    ensures { λ r. ⌜ judgedEntry r ≡ run (judgeAs (Listed v) (now (h .entry)) n i d) (now (s .entry)) ⌝ }
+    ensures { λ r. ⌜ outcomeOfEnded r ≡ run (judgeAs (Listed v) (now (h .entry)) n i d) (now (s .entry)) ⌝ }
 {
-    if id_among(h, d.id, i) {
-        let field = Field {
-            place: d.place,
-            width: 2,
-            sign: false,
-            value: d.id as u64,
-        };
-        return Judged::Bad(Test {
-            field,
-            rule: Rule::Other(1, false),
+    if is_earlier(h, d.id, i) {
+        return Ended::Failed(Test {
+            field: id_field(d),
+            rule: Rule::Other(NEW_ID, false),
             number: 8,
         });
     }
     match item_tests(s, h, n, v, d) {
-        Item::Bad(t) => Judged::Bad(t),
-        Item::Short(p, m) => Judged::Short(p, m),
-        Item::At(q) => Judged::End(q.start + q.size),
+        ItemRead::Failed(t) => Ended::Failed(t),
+        ItemRead::Short(p, m) => Ended::Short(p, m),
+        ItemRead::At(q) => Ended::At(q.start + q.size),
     }
 }
 
-fn judge_entry(s: &[u8], h: &[u8], n: usize, i: usize) -> Judged
+fn judge_entry(s: &[u8], h: &[u8], n: usize, i: usize) -> Ended
     requires { ⌜ (tableEnd n ≤ length (now h)) × (i + 1 ≤ n) ⌝ }
-    ensures { λ r. ⌜ judgedEntry r ≡ run (judgeEntry (now (h .entry)) n i) (now (s .entry)) ⌝ }
+    ensures { λ r. ⌜ outcomeOfEnded r ≡ run (judgeEntry (now (h .entry)) n i) (now (s .entry)) ⌝ }
 {
     let d = entry_at(h, i);
     match listing_of(d.id) {
         Listing::Listed(v) => judge_listed(s, h, n, i, v, d),
-        Listing::Unlisted => Judged::End(0),
+        Listing::Unlisted => Ended::At(0),
     }
 }
 
@@ -93,21 +88,21 @@ fn explain_entries(s: &[u8], h: &[u8], n: usize) -> Explanation
     requires { ⌜ tableEnd n ≤ length (now h) ⌝ }
     ensures { λ r. ⌜ r ≡ explanationOf (run (inOrder (judgeEntry (now (h .entry)) n) n 0 (tableEnd n)) (now (s .entry))) ⌝ }
 {
-    let mut x = 8 + 6 * n;
+    let mut x = table_end(n);
     let mut i = 0;
     while i < n {
         match judge_entry(s, h, n, i) {
-            Judged::Bad(test) => {
+            Ended::Failed(test) => {
                 return Explanation::Failed { test, entry: i + 1 };
             }
-            Judged::Short(start, least) => {
+            Ended::Short(start, least) => {
                 return Explanation::Short {
                     start,
                     least,
                     entry: i + 1,
                 };
             }
-            Judged::End(y) => {
+            Ended::At(y) => {
                 x = larger(x, y);
                 i += 1;
             }
@@ -121,7 +116,7 @@ fn unjudged_entry(h: &[u8], i: usize) -> usize
     requires { ⌜ tableEnd (i + 1) ≤ length (now h) ⌝ }
     ensures { λ r. ⌜ (r ≡ pick (isListed (listingOf (le 2 (now (h .entry)) (entryPlace i)))) 0 1) × (r ≤ 1) ⌝ }
 {
-    let listed = is_listed(le16(h, 8 + 6 * i));
+    let listed = is_listed(le16(h, entry_place(i)));
     if listed {
         return 0;
     }
@@ -144,41 +139,33 @@ fn unjudged_among(h: &[u8], n: usize) -> usize
 
 fn judge_table(s: &[u8], h: &[u8], n: usize) -> Verdict
     requires { ⌜ tableEnd n ≤ length (now h) ⌝ }
-    ensures { λ r. ⌜ verdict r ≡ answer (judgeTable (now (h .entry)) n) (now (s .entry)) ⌝ }
+    ensures { λ r. ⌜ answerOfVerdict r ≡ answer (judgeTable (now (h .entry)) n) (now (s .entry)) ⌝ }
 {
-    match explain_entries(s, h, n) {
-        Explanation::Whole(extent) => Verdict::Whole {
+    match verdict_of(explain_entries(s, h, n)) {
+        verdict::Verdict::Whole(extent) => Verdict::Whole {
             extent,
             unjudged: unjudged_among(h, n),
         },
-        Explanation::Failed { test, entry } => Verdict::Refused {
-            number: test.number,
-            entry,
-        },
-        Explanation::Short {
-            start: _,
-            least: _,
-            entry,
-        } => Verdict::Refused { number: 1, entry },
-        Explanation::Beyond { start: _, entry } => Verdict::Refused { number: 1, entry },
+        verdict::Verdict::Refused { number, entry } => Verdict::Refused { number, entry },
     }
 }
 
+// Judges a file.
 pub fn judge(s: &[u8]) -> Verdict
-    ensures { λ r. ⌜ verdict r ≡ answer judging (now (s .entry)) ⌝ }
+    ensures { λ r. ⌜ answerOfVerdict r ≡ answer judging (now (s .entry)) ⌝ }
 {
     match read_table(s) {
-        TableRead::Bad(t) => Verdict::Refused {
+        Counted::Failed(t) => Verdict::Refused {
             number: t.number,
             entry: 0,
         },
-        TableRead::Short(_, _) => Verdict::Refused {
+        Counted::Short(_, _) => Verdict::Refused {
             number: 1,
             entry: 0,
         },
-        TableRead::Good(count) => {
+        Counted::Count(count) => {
             let n = count as usize;
-            let end = 8 + 6 * n;
+            let end = table_end(n);
             judge_table(s, &s[..end], n)
         }
     }

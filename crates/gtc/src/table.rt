@@ -3,52 +3,87 @@ use reading::check::Field;
 use reading::check::Rule;
 use reading::check::Test;
 use reading::check::Tested;
+use reading::check::failed;
+use reading::check::signed_field;
+use reading::check::unsigned_field;
 use reading::number::byte;
 use reading::number::le16;
 use reading::number::le32;
 ghost use mathlib.Core.Path.{_≡_};
 ghost use mathlib.Core.List.{List};
-ghost use Prim.Native.Nat.{ℕ};
+ghost use Prim.Native.Nat.{ℕ, _≤_};
 ghost use Rattle.reading.specs.Number.{le};
 ghost use Rattle.reading.specs.Check.{run};
 ghost use Rattle.reading.specs.Answers.{outcomeOfTested};
-ghost use Rattle.gtc.specs.Table.{markCheck, countCheck, entryCount, read};
+ghost use Rattle.gtc.specs.Table.{identifierField, versionField, entryCountField, identifierCheck, countCheck, entryPlace, tableEnd, entryCount};
+ghost use Rattle.gtc.specs.Answers.{outcomeOfCounted};
 
-// The number of entries; or the first test that fails, or the bytes that are missing, by their start and end.
-pub(crate) enum TableRead {
-    Good(u32),
-    Bad(Test),
+// The header: the identifier, the version, the number of entries.
+const HEADER_SIZE: usize = 8;
+
+// "gtc", lowest byte first.
+const GTC_IDENTIFIER: u32 = 0x637467;
+
+const GTC_VERSION: u8 = 5;
+
+const MOST_ENTRIES: u32 = 999;
+
+// An entry is a u16 id and an i32 offset.
+const ENTRY_SIZE: usize = 6;
+
+// A count; or the first test that fails, or the bytes that are missing, by their start and end.
+pub(crate) enum Counted {
+    Count(u32),
+    Failed(Test),
     Short(usize, usize),
 }
 
-fn mark_tests(mark: u32, version: u8) -> Tested
-    ensures { λ r. ⌜ ((l : List ℕ) → outcomeOfTested r ≡ run (markCheck mark version) l) ⌝ }
+// Where entry i, counted from 0, stands.
+pub(crate) fn entry_place(i: usize) -> usize
+    requires { ⌜ entryPlace i ≤ 0xffffffffffffffff ⌝ }
+    ensures { λ r. ⌜ r ≡ entryPlace i ⌝ }
 {
-    let first = Field {
-        place: 0,
-        width: 3,
-        sign: false,
-        value: mark as u64,
-    };
-    let second = Field {
-        place: 3,
-        width: 1,
-        sign: false,
-        value: version as u64,
-    };
-    if mark != 0x637467 {
-        return Tested::Failed(Test {
-            field: first,
-            rule: Rule::Exactly(0x637467),
-            number: 2,
-        });
+    HEADER_SIZE + ENTRY_SIZE * i
+}
+
+// The end of a table of n entries.
+pub(crate) fn table_end(n: usize) -> usize
+    requires { ⌜ tableEnd n ≤ 0xffffffffffffffff ⌝ }
+    ensures { λ r. ⌜ r ≡ tableEnd n ⌝ }
+{
+    entry_place(n)
+}
+
+fn identifier_field(identifier: u32) -> Field
+    ensures { λ r. ⌜ r ≡ identifierField identifier ⌝ }
+{
+    unsigned_field(3, 0, identifier as u64)
+}
+
+fn version_field(version: u8) -> Field
+    ensures { λ r. ⌜ r ≡ versionField version ⌝ }
+{
+    unsigned_field(1, 3, version as u64)
+}
+
+fn entry_count_field(count: u32) -> Field
+    ensures { λ r. ⌜ r ≡ entryCountField count ⌝ }
+{
+    signed_field(4, 4, count as u64)
+}
+
+fn identifier_tests(identifier: u32, version: u8) -> Tested
+    ensures { λ r. ⌜ ((l : List ℕ) → outcomeOfTested r ≡ run (identifierCheck identifier version) l) ⌝ }
+{
+    if identifier != GTC_IDENTIFIER {
+        return failed(
+            identifier_field(identifier),
+            Rule::Exactly(GTC_IDENTIFIER as u64),
+            2,
+        );
     }
-    if version != 5 {
-        return Tested::Failed(Test {
-            field: second,
-            rule: Rule::Exactly(5),
-            number: 3,
-        });
+    if version != GTC_VERSION {
+        return failed(version_field(version), Rule::Exactly(GTC_VERSION as u64), 3);
     }
     Tested::Passed
 }
@@ -56,55 +91,46 @@ fn mark_tests(mark: u32, version: u8) -> Tested
 fn count_tests(count: u32) -> Tested
     ensures { λ r. ⌜ ((l : List ℕ) → outcomeOfTested r ≡ run (countCheck count) l) ⌝ }
 {
-    let field = Field {
-        place: 4,
-        width: 4,
-        sign: true,
-        value: count as u64,
-    };
     if 0x8000_0000 <= count {
-        return Tested::Failed(Test {
-            field,
-            rule: Rule::NotNegative,
-            number: 4,
-        });
+        return failed(entry_count_field(count), Rule::NotNegative, 4);
     }
-    if 999 < count {
-        return Tested::Failed(Test {
-            field,
-            rule: Rule::AtMost(999),
-            number: 5,
-        });
+    if MOST_ENTRIES < count {
+        return failed(
+            entry_count_field(count),
+            Rule::AtMost(MOST_ENTRIES as u64),
+            5,
+        );
     }
     Tested::Passed
 }
 
 // The first three bytes, lowest first.
-fn mark_of(h: &[u8]) -> u32
+fn identifier_of(h: &[u8]) -> u32
     ensures { λ r. ⌜ r ≡ le 3 (now (h .entry)) 0 ⌝ }
 {
     le16(h, 0) as u32 + 65536 * byte(h, 2) as u32
 }
 
-pub(crate) fn read_table(s: &[u8]) -> TableRead
-    ensures { λ r. ⌜ read r ≡ run entryCount (now (s .entry)) ⌝ }
+// The number of entries.
+pub(crate) fn read_table(s: &[u8]) -> Counted
+    ensures { λ r. ⌜ outcomeOfCounted r ≡ run entryCount (now (s .entry)) ⌝ }
 {
-    if s.len() < 8 {
-        return TableRead::Short(0, 8);
+    if s.len() < HEADER_SIZE {
+        return Counted::Short(0, HEADER_SIZE);
     }
-    let h = &s[..8];
-    let mark = mark_of(h);
+    let h = &s[..HEADER_SIZE];
+    let identifier = identifier_of(h);
     let version = byte(h, 3);
     let count = le32(h, 4);
-    if let Tested::Failed(t) = mark_tests(mark, version) {
-        return TableRead::Bad(t);
+    if let Tested::Failed(t) = identifier_tests(identifier, version) {
+        return Counted::Failed(t);
     }
     if let Tested::Failed(t) = count_tests(count) {
-        return TableRead::Bad(t);
+        return Counted::Failed(t);
     }
-    let end = 8 + 6 * count as usize;
+    let end = table_end(count as usize);
     if s.len() < end {
-        return TableRead::Short(8, end);
+        return Counted::Short(HEADER_SIZE, end);
     }
-    TableRead::Good(count)
+    Counted::Count(count)
 }

@@ -6,11 +6,11 @@ use crate::line::put_signed;
 use crate::line::put_whole;
 use abif::directory::Opened;
 use abif::directory::open;
-use abif::judge::Verdict;
 use abif::judge::judge;
 use abif_file::entry::EntryFound;
 use abif_file::entry::RawEntry;
 use abif_file::entry::entry;
+use reading::verdict::Verdict;
 
 // Data of 4 bytes or fewer stand in the entry itself.
 fn put_place(d: RawEntry) {

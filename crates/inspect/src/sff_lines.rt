@@ -1,12 +1,12 @@
 // The line for an SFF file: its verdict.
 use crate::line::put_refused;
 use crate::line::put_whole;
-use sff::judge::Verdict;
+use reading::verdict::Verdict;
 use sff::judge::judge;
 
 pub(crate) fn put_file(s: &[u8]) {
     match judge(s) {
-        Verdict::Refused { number, read } => put_refused(b"SFF", number, read),
+        Verdict::Refused { number, entry } => put_refused(b"SFF", number, entry),
         Verdict::Whole(extent) => put_whole(b"SFF", extent, s.len()),
     }
 }

@@ -48,21 +48,21 @@ module _ (f : Format) where
   abbrev pub Asked : f .Call → ℕ → ℕ → Type 0
   Asked c n e = (among n refusals ≡ true) × ((c ≡ f .judging → ⊥) → e ≡ 0)
 
-  abbrev shows : (c : f .Call) → Part → Answer (f .Value c) → Seen f c
-  shows c file r = record { answers = r; part = handedBack file (mapAnswer (f .span c) r); list = filled (mapAnswer (f .writes c) r) (f .lent c) }
+  abbrev shows : (c : f .Call) → Part → Answer (f .call c .Value) → Seen f c
+  shows c file r = record { answers = r; part = handedBack file (mapAnswer (f .call c .span) r); list = filled (mapAnswer (f .call c .writes) r) (f .call c .lent) }
 
-  pub ends : ((c : f .Call) (s : List ℕ) → Refuses (Asked c) (f .checks c) s) → (c : f .Call) (file : Part) → Ends f c file
-  ends told c file = go (answer (f .checks c) (file .bytes)) refl
+  pub ends : ((c : f .Call) (s : List ℕ) → Refuses (Asked c) (f .call c .checks) s) → (c : f .Call) (file : Part) → Ends f c file
+  ends all c file = go (answer (f .call c .checks) (file .bytes)) refl
     where
-      go : (r : Answer (f .Value c)) → answer (f .checks c) (file .bytes) ≡ r → Ends f c file
+      go : (r : Answer (f .call c .Value)) → answer (f .call c .checks) (file .bytes) ≡ r → Ends f c file
       go (ok v) q = answers v q
       go (refused n e) q =
-          let p = told c (file .bytes) .told n e q in
+          let p = all c (file .bytes) .told n e q in
           refuses n e (p .0) (p .1) (ap (shows c file) q)
 
   -- a call that reports no entry, and judging
-  pub at-none : (c : f .Call) (s : List ℕ) → Refuses AtNone (f .checks c) s → Refuses (Asked c) (f .checks c) s
+  pub at-none : (c : f .Call) (s : List ℕ) → Refuses AtNone (f .call c .checks) s → Refuses (Asked c) (f .call c .checks) s
   at-none c s h = record { told = λ n e q. let p = h .told n e q in (p .0, λ _. p .1) }
 
-  pub anywhere : (s : List ℕ) → Refuses Anywhere (f .checks (f .judging)) s → Refuses (Asked (f .judging)) (f .checks (f .judging)) s
+  pub anywhere : (s : List ℕ) → Refuses Anywhere (f .call (f .judging) .checks) s → Refuses (Asked (f .judging)) (f .call (f .judging) .checks) s
   anywhere s h = record { told = λ n e q. (h .told n e q, λ k. absurd (k refl)) }

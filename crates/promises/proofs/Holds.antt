@@ -17,39 +17,39 @@ use Rattle.promises.specs.Demand3.{CutShort, Holds}
 
 -- what is shown of a format: the parts handed back lie within the file, judging needs just the extent, and no other call needs more
 pub record Needs (f : Format) : Type 0 where
-  pub fits : (c : f .Call) (s : List ℕ) (v : f .Value c) → answer (f .checks c) s ≡ ok v → f .span c v .start + f .span c v .size ≤ length s
-  pub extent : (s : List ℕ) (v : f .Value (f .judging)) → answer (f .checks (f .judging)) s ≡ ok v → reach (f .checks (f .judging)) s ≡ f .extent v
-  pub under : (c : f .Call) (s : List ℕ) (v : f .Value (f .judging)) → answer (f .checks (f .judging)) s ≡ ok v → reach (f .checks c) s ≤ f .extent v
+  pub fits : (c : f .Call) (s : List ℕ) (v : f .call c .Value) → answer (f .call c .checks) s ≡ ok v → f .call c .span v .start + f .call c .span v .size ≤ length s
+  pub extent : (s : List ℕ) (v : f .call (f .judging) .Value) → answer (f .call (f .judging) .checks) s ≡ ok v → reach (f .call (f .judging) .checks) s ≡ f .extent v
+  pub under : (c : f .Call) (s : List ℕ) (v : f .call (f .judging) .Value) → answer (f .call (f .judging) .checks) s ≡ ok v → reach (f .call c .checks) s ≤ f .extent v
 
 module _ (f : Format) (k : Needs f) where
   -- what a call shows of a file, from its answer
-  abbrev shows : (c : f .Call) → Part → Answer (f .Value c) → Seen f c
-  shows c file r = record { answers = r; part = handedBack file (mapAnswer (f .span c) r); list = filled (mapAnswer (f .writes c) r) (f .lent c) }
+  abbrev shows : (c : f .Call) → Part → Answer (f .call c .Value) → Seen f c
+  shows c file r = record { answers = r; part = handedBack file (mapAnswer (f .call c .span) r); list = filled (mapAnswer (f .call c .writes) r) (f .call c .lent) }
 
-  part-same : (c : f .Call) (file : Part) (n : ℕ) (r : Answer (f .Value c)) → answer (f .checks c) (take n (file .bytes)) ≡ r → handedBack (cutTo n file) (mapAnswer (f .span c) r) ≡ handedBack file (mapAnswer (f .span c) r)
-  part-same c file n (ok v) e = handed-kept file n (ok (f .span c v)) (λ q h.
+  part-same : (c : f .Call) (file : Part) (n : ℕ) (r : Answer (f .call c .Value)) → answer (f .call c .checks) (take n (file .bytes)) ≡ r → handedBack (cutTo n file) (mapAnswer (f .call c .span) r) ≡ handedBack file (mapAnswer (f .call c .span) r)
+  part-same c file n (ok v) e = handed-kept file n (ok (f .call c .span v)) (λ q h.
       let l : length (take n (file .bytes)) ≡ min n (length (file .bytes)) = length-take n (file .bytes) in
       let w = k .fits c (take n (file .bytes)) v e in
-      let z : f .span c v ≡ q = cc in
+      let z : f .call c .span v ≡ q = cc in
       subst (λ (x : Span). x .start + x .size ≤ n) z (omega arith))
   part-same c file n (refused m d) e = handed-kept file n (refused m d) (λ q h. let z : _≡_ {A = ℕ} 0 1 = cc in absurd (omega arith))
 
-  seen-same : (c : f .Call) (file : Part) (n : ℕ) → answer (f .checks c) (take n (file .bytes)) ≡ answer (f .checks c) (file .bytes) → seen f c (cutTo n file) ≡ seen f c file
+  seen-same : (c : f .Call) (file : Part) (n : ℕ) → answer (f .call c .checks) (take n (file .bytes)) ≡ answer (f .call c .checks) (file .bytes) → seen f c (cutTo n file) ≡ seen f c file
   seen-same c file n e =
-      ap (shows c (cutTo n file)) e ∙ ap (λ (p : Part). record { answers = answer (f .checks c) (file .bytes); part = p; list = filled (mapAnswer (f .writes c) (answer (f .checks c) (file .bytes))) (f .lent c) }) (part-same c file n (answer (f .checks c) (file .bytes)) e)
+      ap (shows c (cutTo n file)) e ∙ ap (λ (p : Part). record { answers = answer (f .call c .checks) (file .bytes); part = p; list = filled (mapAnswer (f .call c .writes) (answer (f .call c .checks) (file .bytes))) (f .call c .lent) }) (part-same c file n (answer (f .call c .checks) (file .bytes)) e)
 
-  short : (c : f .Call) (file : Part) (r : Answer (f .Value c)) → Refused1 r → answer (f .checks c) (file .bytes) ≡ r → CutShort f c file
+  short : (c : f .Call) (file : Part) (r : Answer (f .call c .Value)) → Refused1 r → answer (f .call c .checks) (file .bytes) ≡ r → CutShort f c file
   short c file r (refused1 e) h = (e, ap (shows c file) h)
 
   pub holds : Holds f
   holds =
       record {
-        cut = λ c file n. either c file n (cut-or-same (f .checks c) (file .bytes) n);
-        within = λ file v w. subst (λ (x : ℕ). x ≤ length (file .bytes)) (k .extent (file .bytes) v w) (cuts (f .checks (f .judging)) (file .bytes) v w .within);
-        below = λ file v w n h. short (f .judging) (cutTo n file) _ (cuts (f .checks (f .judging)) (file .bytes) v w .cut n (subst (λ (x : ℕ). n < x) (sym (k .extent (file .bytes) v w)) h)) refl;
-        from = λ file v w n h c. seen-same c file n (answer-same (f .checks c) n (file .bytes) (omega (arith, k .under c (file .bytes) v w)));
+        cut = λ c file n. either c file n (cut-or-same (f .call c .checks) (file .bytes) n);
+        within = λ file v w. subst (λ (x : ℕ). x ≤ length (file .bytes)) (k .extent (file .bytes) v w) (cuts (f .call (f .judging) .checks) (file .bytes) v w .within);
+        below = λ file v w n h. short (f .judging) (cutTo n file) _ (cuts (f .call (f .judging) .checks) (file .bytes) v w .cut n (subst (λ (x : ℕ). n < x) (sym (k .extent (file .bytes) v w)) h)) refl;
+        from = λ file v w n h c. seen-same c file n (answer-same (f .call c .checks) n (file .bytes) (omega (arith, k .under c (file .bytes) v w)));
       }
     where
-      either : (c : f .Call) (file : Part) (n : ℕ) → Refused1 (answer (f .checks c) (take n (file .bytes))) ⊎ (answer (f .checks c) (take n (file .bytes)) ≡ answer (f .checks c) (file .bytes)) → CutShort f c (cutTo n file) ⊎ (seen f c (cutTo n file) ≡ seen f c file)
+      either : (c : f .Call) (file : Part) (n : ℕ) → Refused1 (answer (f .call c .checks) (take n (file .bytes))) ⊎ (answer (f .call c .checks) (take n (file .bytes)) ≡ answer (f .call c .checks) (file .bytes)) → CutShort f c (cutTo n file) ⊎ (seen f c (cutTo n file) ≡ seen f c file)
       either c file n (inl q) = inl (short c (cutTo n file) _ q refl)
       either c file n (inr q) = inr (seen-same c file n q)

@@ -13,14 +13,16 @@ use Rattle.reading.specs.Number.{be}
 use Rattle.reading.specs.Check.{ok, answer, holds}
 use Rattle.reading.proofs.Width.{be-in-part}
 use Rattle.reading.proofs.Passed.{bind-ok, must-ok}
-use Rattle.sff.specs.declared.header.Header.{Header}
+use Rattle.sff_fields.specs.declared.header.Header.{Header}
 use Rattle.sff.specs.Header.{header}
-use Rattle.sff.specs.Read.{readEnd, dataStart, stepsStart, lettersStart, framing}
-use Rattle.sff.specs.Walk.{front, Passage, walk}
-use Rattle.sff.specs.Clips.{clipsCheck, firstBase, lastBase, insertFrom, insert}
+use Rattle.sff.specs.Read.{framing}
+use Rattle.sff_fields.specs.Read.{dataStart, readEnd, stepsStart, lettersStart}
+use Rattle.sff.specs.Walk.{firstBoundary, Passage, walk}
+use Rattle.sff_fields.specs.Clips.{clipsCheck, firstBase, lastBase, insertFrom, insert}
 use Rattle.contents.specs.Steps.{stepsCheck}
-use Rattle.sff.specs.Lookup.{readOf, readFrom, readReading}
-use Rattle.sff.proofs.padding.Laws.{padded-bounds}
+use Rattle.sff.specs.Lookup.{readFrom, readReading}
+use Rattle.sff_fields.specs.Parts.{readOf}
+use Rattle.sff_fields.proofs.padding.Laws.{padded-bounds}
 use Rattle.contents.proofs.steps.Laws.{steps-window}
 use Rattle.sff.proofs.lookup.Laws.{last-below}
 use Rattle.sff.proofs.NoIndex.{framing-passes, read-from-passes, clips-any, steps-any, walk-passes, walk-start, judging-passes, number-passes, number-none, number-past}
@@ -29,11 +31,13 @@ use Rattle.writing.proofs.Over.{take-put}
 use Rattle.writing.proofs.Words.{word-back}
 use Rattle.sff_write.specs.declared.write.Writer.{Writer}
 use Rattle.sff_write.specs.Header.{headerSize, headerBytes}
-use Rattle.sff_write.specs.Read.{Given, headerWith, headerFor, readBytes, Fitting}
+use Rattle.sff_write.specs.Read.{GivenRead, headerWith, headerFor, readBytes}
+use Rattle.sff_write.specs.Private.{Fitting}
 use Rattle.sff_write.specs.Write.{Piece, beginning, adding}
 use Rattle.sff_write.proofs.write.Laws.{begin-passed, add-passed, finish-passed}
 use Rattle.sff_write.proofs.Back.{header-length, headerBack, header-back, flow-letters-back, key-back, read-end, present-back, name-back, flows-back, steps-back, letters-back, qualities-back, among-letters}
-use Rattle.promises.specs.SffWritten.{Session, begun, added, bytesAt, ReadIs, ReadsBack, Lent, SffReadsBack}
+use Rattle.reading.specs.Part.{bytesAt}
+use Rattle.promises.specs.SffWritten.{Session, begun, added, ReadIs, HoldsReads, ReadsFitTypes, SffReadsBack}
 
 -- the letters from base m to base n stand in the file as they were given
 insert-same : (s letters : List ℕ) (p m n : ℕ) → 1 ≤ m → n ≤ length letters → ((i j : ℕ) → i + j ≤ length letters → take j (drop (p + i) s) ≡ take j (drop i letters)) → bytesAt s (insertFrom p m n) ≡ bytesAt letters (insertFrom 0 m n)
@@ -47,7 +51,7 @@ insert-same s letters p m n h k f = go (leb m n) refl
     go false e = rw e
 
 -- a read behind u that was accepted as number k
-module _ (u t : List ℕ) (f k : ℕ) (r : Given) (fit : Fitting f r) (clips : answer (clipsCheck (headerFor (length u) r)) [] ≡ ok tt) (steps : answer (stepsCheck f (r .steps) 0 (length (r .steps))) [] ≡ ok tt) (small : (i : ℕ) → getD (r .flows) i 0 < 65536) where
+module _ (u t : List ℕ) (f k : ℕ) (r : GivenRead) (fit : Fitting f r) (clips : answer (clipsCheck (headerFor (length u) r)) [] ≡ ok tt) (steps : answer (stepsCheck f (r .steps) 0 (length (r .steps))) [] ≡ ok tt) (small : (i : ℕ) → getD (r .flows) i 0 < 65536) where
   abbrev file : List ℕ
   file = u ++ (readBytes (headerFor (length u) r) r ++ t)
 
@@ -97,7 +101,7 @@ module _ (u t : List ℕ) (f k : ℕ) (r : Given) (fit : Fitting f r) (clips : a
         insert = insert-same file (r .letters) (lettersStart f d) (firstBase d) (lastBase d) (omega arith) (omega arith) (among-letters u t f r fit);
       }
 
-module _ (n : ℕ) (letters key : List ℕ) (g : ℕ → Given) where
+module _ (n : ℕ) (letters key : List ℕ) (g : ℕ → GivenRead) where
   -- the file with its first m reads
   upTo : ℕ → List ℕ
   upTo zero = headerBytes n letters key
@@ -176,7 +180,7 @@ module _ (n : ℕ) (letters key : List ℕ) (g : ℕ → Given) where
       let l : length (upTo m) ≡ headerSize letters key + length (v .0) = ap length (v .1) ∙ length-append (upTo 0) (v .0) ∙ ap (λ (j : ℕ). j + length (v .0)) (header-length n letters key) in
       omega arith
 
-  module _ (lent : Lent n g) (fits : headerSize letters key ≤ 65535) (sound : (k : ℕ) → k < n → Sound k) where
+  module _ (lent : ReadsFitTypes n g) (fits : headerSize letters key ≤ 65535) (sound : (k : ℕ) → k < n → Sound k) where
     abbrev whole-file : List ℕ
     whole-file = upTo n
 
@@ -204,7 +208,7 @@ module _ (n : ℕ) (letters key : List ℕ) (g : ℕ → Given) where
         ap (answer (framing (length letters) (length (upTo k)))) (v .1) ∙ framing-passes _ _ _ _ (present-back (upTo k) (v .0) (length letters) (g k) fit) ∙ ap ok (read-end (upTo k) (v .0) (length letters) (g k) fit)
 
     -- the walk over the first k reads
-    walked : (k : ℕ) → k ≤ n → (v : Passage) × (answer (walk fields-back k 0 (front fields-back)) (upTo n) ≡ ok v) × (v .behind .position ≡ length (upTo k))
+    walked : (k : ℕ) → k ≤ n → (v : Passage) × (answer (walk fields-back k 0 (firstBoundary fields-back)) (upTo n) ≡ ok v) × (v .behind .position ≡ length (upTo k))
     unfolding upTo
     walked zero h =
         let w = walk-start fields-back (upTo n) refl in
@@ -215,17 +219,17 @@ module _ (n : ℕ) (letters key : List ℕ) (g : ℕ → Given) where
         let f = subst (λ (j : ℕ). answer (framing (length letters) j) (upTo n) ≡ ok (length (upTo (suc k)))) (sym (v .2)) (framing-is k h) in
         let w = walk-passes fields-back (upTo n) refl k (length (upTo (suc k))) (v .0) (v .1) (rw (v .2) p) f in
         let e : k + 1 ≡ suc k = omega arith in
-        (w .0, subst (λ (j : ℕ). answer (walk fields-back j 0 (front fields-back)) (upTo n) ≡ ok (w .0)) e (w .1), w .2)
+        (w .0, subst (λ (j : ℕ). answer (walk fields-back j 0 (firstBoundary fields-back)) (upTo n) ≡ ok (w .0)) e (w .1), w .2)
 
-    kept : (k : ℕ) → k < n → ReadIs (upTo n) (k + 1) (g k)
-    kept k h =
+    each : (k : ℕ) → k < n → ReadIs (upTo n) (k + 1) (g k)
+    each k h =
         let v = walked k (omega arith) in
         let z = sound k h in
         let t = read-at k h in
         let q = number-passes fields-back (upTo n) refl header-is k (v .0) (length (upTo k)) h (v .1) (v .2) (positive k) in
         subst (λ (s : List ℕ). ReadIs s (k + 1) (g k)) (sym (t .1)) (read-is (upTo k) (t .0) (length letters) (k + 1) (g k) (z .fit) (z .clips) (z .steps) (lent .flows k) (subst (λ (s : List ℕ). answer (readReading (k + 1)) s ≡ answer (readFrom (length letters) (length (upTo k))) s) (t .1) q))
 
-    reads-back : ReadsBack n letters key g (upTo n)
+    reads-back : HoldsReads n letters key g (upTo n)
     unfolding upTo
     reads-back =
         let v = walked n (omega arith) in
@@ -234,13 +238,13 @@ module _ (n : ℕ) (letters key : List ℕ) (g : ℕ → Given) where
         record {
           whole = judging-passes fields-back (upTo n) refl header-is (v .0) (v .1) (rw (v .2) (positive n)) ∙ ap ok (v .2);
           fields = fields-back;
-          opened = header-is;
+          has-header = header-is;
           reads = refl;
           flows = refl;
           key-length = refl;
           flow-letters = ap (λ (s : List ℕ). take (length letters) (drop 31 s)) (t .1) ∙ flow-letters-back n letters key few fits (t .0);
           key-letters = ap (λ (s : List ℕ). take (length key) (drop (31 + length letters) s)) (t .1) ∙ key-back n letters key few fits (t .0);
-          kept = kept;
+          each = each;
           first = number-none fields-back (upTo n) refl header-is;
           last = λ k h. number-past fields-back (upTo n) refl header-is k h;
         }
@@ -252,4 +256,4 @@ sff-reads-back n letters key g m w o x lent s h =
     let e : m ≡ n = sym (a .count) ∙ b .0 ∙ a .stated in
     let f : upTo n letters key g n ≡ take x o = ap (upTo n letters key g) (sym e) ∙ sym (a .held) ∙ ap (λ (k : ℕ). take k o) (b .1) in
     let l : length (take x o) ≡ x = ap length (sym f) ∙ ap (λ (k : ℕ). length (upTo n letters key g k)) (sym e) ∙ sym (a .place) ∙ b .1 in
-    (e, l, subst (ReadsBack n letters key g) f (reads-back n letters key g lent (a .fits) (λ k l. a .sound k (omega arith))))
+    (e, l, subst (HoldsReads n letters key g) f (reads-back n letters key g lent (a .fits) (λ k l. a .sound k (omega arith))))

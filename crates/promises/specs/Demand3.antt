@@ -1,5 +1,5 @@
--- Demand 3, whole: cutting a file never changes an answer except to refusal 1, and a whole file stays whole down to its extent. It speaks of every reading call of every
--- format.
+-- Demand 3, whole: cutting a file never changes an answer except to refusal 1, and a whole file stays whole down to its extent. It speaks of every
+-- reading call of every format.
 use Prim.Native.Nat.{ℕ, _≤_, _<_}
 use mathlib.Core.Path.{_≡_}
 use mathlib.Core.Logic.{_⊎_}
@@ -15,19 +15,29 @@ module _ (f : Format) where
   abbrev pub CutShort : (c : f .Call) → Part → Type 0
   CutShort c file = (e : ℕ) × (seen f c file ≡ refusal f c file 1 e)
 
+  -- what judging answers
+  abbrev pub Judged : Type 0
+  Judged = f .call (f .judging) .Value
+
   -- judging refuses nothing, and answers v
-  abbrev pub JudgedWhole : Part → f .Value (f .judging) → Type 0
-  JudgedWhole file v = answer (f .checks (f .judging)) (file .bytes) ≡ ok v
+  abbrev pub JudgedWhole : Part → Judged → Type 0
+  JudgedWhole file v = answer (f .call (f .judging) .checks) (file .bytes) ≡ ok v
 
   pub record Holds : Type 0 where
     -- a cut is refused with 1, or shows all that the file shows
     pub cut : (c : f .Call) (file : Part) (n : ℕ) → CutShort c (cutTo n file) ⊎ (seen f c (cutTo n file) ≡ seen f c file)
     -- the extent of a whole file lies within it
-    pub within : (file : Part) (v : f .Value (f .judging)) → JudgedWhole file v → f .extent v ≤ length (file .bytes)
+    pub within : (file : Part) (v : Judged) → JudgedWhole file v → f .extent v ≤ length (file .bytes)
     -- below the extent judging refuses with 1
-    pub below : (file : Part) (v : f .Value (f .judging)) → JudgedWhole file v → (n : ℕ) → n < f .extent v → CutShort (f .judging) (cutTo n file)
+    pub below : (file : Part) (v : Judged) → JudgedWhole file v → (n : ℕ) → n < f .extent v → CutShort (f .judging) (cutTo n file)
     -- from the extent on every call, judging among them, shows all that it shows on the file
-    pub from : (file : Part) (v : f .Value (f .judging)) → JudgedWhole file v → (n : ℕ) → f .extent v ≤ n → (c : f .Call) → seen f c (cutTo n file) ≡ seen f c file
+    pub from :
+        (file : Part) (v : Judged)
+        → JudgedWhole file v
+        → (n : ℕ)
+        → f .extent v ≤ n
+        → (c : f .Call)
+        → seen f c (cutTo n file) ≡ seen f c file
 
 -- it holds of every format
 abbrev pub Demand3 : Type 0

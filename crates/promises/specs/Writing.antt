@@ -1,46 +1,46 @@
 -- The calls of the writers, with all that they are lent. They are lent no file, so each is run on no bytes.
 use Prim.Native.Nat.{ℕ}
 use mathlib.Core.List.{List, []}
-use lib.IntN.{ℤ}
 use lib.ListN.{length}
 use Rattle.reading.specs.Check.{Check, Answer}
 use Rattle.reading.specs.Lent.{filled}
 use Rattle.abif_write.specs.Write as Abif
+use Rattle.abif_write.specs.Item.{Records}
 use Rattle.sff_write.specs.declared.write.Writer.{Writer}
-use Rattle.sff_write.specs.Read.{Given}
+use Rattle.sff_write.specs.Read.{GivenRead}
 use Rattle.sff_write.specs.Write.{Piece, beginning, adding, finishing, writtenAt}
 
 pub data Writing : Type 0 where
   -- an ABIF file of the items that the records name, with their data
-  abif : (names : List ℕ) (numbers types : List ℤ) (counts starts lengths items out : List ℕ) → Writing
+  abif : Records → (buffer out : List ℕ) → Writing
   -- an SFF header, a read behind what is written, and the end of the file
   begin : (reads : ℕ) (letters key out : List ℕ) → Writing
-  add : (w : Writer) → Given → (out : List ℕ) → Writing
+  add : (w : Writer) → GivenRead → (out : List ℕ) → Writing
   finish : Writer → Writing
 
--- what is answered is what is written, for SFF with the state behind it; the end tells the file's length
-abbrev pub Value : Writing → Type 0
-Value (abif a b c d e f g out) = List ℕ
-Value (begin n letters key out) = Piece
-Value (add w r out) = Piece
-Value (finish w) = ℕ
+-- A writer's call with all that it is lent.
+pub record WritingCall : Type 1 where
+  -- what it answers where it refuses nothing
+  pub Value : Type 0
+  pub checks : Check Value
+  -- the output that it is lent, and what that holds after the call
+  pub lent : List ℕ
+  pub after : Answer Value → List ℕ
 
-abbrev pub checks : (c : Writing) → Check (Value c)
-checks (abif a b c d e f g out) = Abif.writing a b c d e f g (length out)
-checks (begin n letters key out) = beginning n letters key (length out)
-checks (add w r out) = adding w r (length out)
-checks (finish w) = finishing w
+-- a call that writes a whole file to the front of its output
+abbrev pub wholeFile : Check (List ℕ) → List ℕ → WritingCall
+wholeFile t out = record { Value = List ℕ; checks = t; lent = out; after = λ r. filled r out }
 
--- the output that is lent; the end of a file is lent none
-abbrev pub lent : Writing → List ℕ
-lent (abif a b c d e f g out) = out
-lent (begin n letters key out) = out
-lent (add w r out) = out
-lent (finish w) = []
+-- a call that writes a piece of a file from this place on
+abbrev pub piece : Check Piece → ℕ → List ℕ → WritingCall
+piece t place out = record { Value = Piece; checks = t; lent = out; after = λ r. writtenAt place r out }
 
--- what it holds after the call
-abbrev pub holdsAfter : (c : Writing) → Answer (Value c) → List ℕ
-holdsAfter (abif a b c d e f g out) r = filled r out
-holdsAfter (begin n letters key out) r = writtenAt 0 r out
-holdsAfter (add w r out) q = writtenAt (w .at) q out
-holdsAfter (finish w) r = []
+-- a call that is lent no output, and answers the file's length
+abbrev pub lengthOnly : Check ℕ → WritingCall
+lengthOnly t = record { Value = ℕ; checks = t; lent = []; after = λ _. [] }
+
+abbrev pub call : Writing → WritingCall
+call (abif r buffer out) = wholeFile (Abif.writing r buffer (length out)) out
+call (begin reads letters key out) = piece (beginning reads letters key (length out)) 0 out
+call (add w r out) = piece (adding w r (length out)) (w .at) out
+call (finish w) = lengthOnly (finishing w)

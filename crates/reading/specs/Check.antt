@@ -12,37 +12,39 @@ use Rattle.reading.specs.declared.check.Test.{Test}
 use Rattle.reading.specs.Choice.{pick}
 use Rattle.reading.specs.Number.{negative, signed}
 
+-- a field of `width` bytes at a place, which hold `value` as an unsigned number
 abbrev pub signedField : ℕ → ℕ → ℕ → Field
-signedField w p v = record { place = p; width = w; sign = true; value = v }
+signedField width place value = record { place = place; width = width; sign = true; value = value }
 
 abbrev pub unsignedField : ℕ → ℕ → ℕ → Field
-unsignedField w p v = record { place = p; width = w; sign = false; value = v }
+unsignedField width place value = record { place = place; width = width; sign = false; value = value }
 
--- what stands in a field
+-- the number that a field holds
 abbrev pub fieldValue : Field → ℤ
 fieldValue f = pick (f .sign) (signed (f .width) (f .value)) (pos (f .value))
 
 abbrev pub isNegative : Field → Bool
 isNegative f = pick (f .sign) (negative (f .width) (f .value)) false
 
--- what stands in the field obeys the rule
+-- the number that the field holds obeys the rule
 unfoldable pub holds : Rule → Field → Bool
-holds (Exactly n) f = pick (isNegative f) false (eqb (f .value) n)
-holds (EqualTo n) f = pick (isNegative f) false (eqb (f .value) n)
-holds NotNegative f = pick (isNegative f) false true
-holds (AtLeast n) f = pick (isNegative f) false (leb n (f .value))
-holds (AtMost n) f = pick (isNegative f) true (leb (f .value) n)
-holds (Between m n) f = pick (isNegative f) false (pick (leb m (f .value)) (leb (f .value) n) false)
-holds (Other k b) f = b
+holds (Exactly n) field = pick (isNegative field) false (eqb (field .value) n)
+holds (EqualTo n) field = pick (isNegative field) false (eqb (field .value) n)
+holds NotNegative field = pick (isNegative field) false true
+holds (AtLeast n) field = pick (isNegative field) false (leb n (field .value))
+holds (AtMost n) field = pick (isNegative field) true (leb (field .value) n)
+holds (Between m n) field = pick (isNegative field) false (pick (leb m (field .value)) (leb (field .value) n) false)
+holds (Other requirement met) field = met
 
 -- a need: the bytes from start to end are present, else refusal 1
 pub record Need : Type 0 where
   pub start : ℕ
   pub end : ℕ
 
+-- a test passes: computed from its field and rule
 unfoldable pub passes : Test → Bool
 unfolding holds
-passes w = holds (w .rule) (w .field)
+passes t = holds (t .rule) (t .field)
 
 pub data Check (A : Type 0) : Type 0 where
   -- every check is passed
@@ -62,21 +64,21 @@ bytes m e k >>= f = bytes m e (λ l. k l >>= f)
 abbrev pub _>>_ : {A B : Type 0} → Check A → Check B → Check B
 t >> u = t >>= (λ _. u)
 
--- one check: the field obeys the rule, else refusal n
+-- one check: the field obeys the rule, else the refusal of this number
 unfoldable pub must : Field → Rule → ℕ → Check (Unit {0})
-must f r n = test (record { field = f; rule = r; number = n }) 0 (done tt)
+must field rule number = test (record { field = field; rule = rule; number = number }) 0 (done tt)
 
--- one check: the bytes from place p to m are present, else refusal 1
+-- one check: the bytes from start to end are present, else refusal 1; what follows is handed the file up to that end
 unfoldable pub need : ℕ → ℕ → Check (List ℕ)
-need p m = bytes (record { start = p; end = m }) 0 (λ l. done l)
+need start end = bytes (record { start = start; end = end }) 0 (λ upTo. done upTo)
 
--- one check of no field of the file: the test holds, else refusal n
+-- one check of no field of the file: this holds, else the refusal of this number
 abbrev pub provided : Bool → ℕ → Check (Unit {0})
-provided b n = must (unsignedField 0 0 0) (Other 0 b) n
+provided met number = must (unsignedField 0 0 0) (Other 0 met) number
 
 -- the test that fails where it does not hold
 abbrev pub failing : ℕ → Test
-failing n = record { field = unsignedField 0 0 0; rule = Other 0 false; number = n }
+failing number = record { field = unsignedField 0 0 0; rule = Other 0 false; number = number }
 
 -- the checks of t, reported at entry or read e
 module _ {A : Type 0} (e : ℕ) where

@@ -23,7 +23,8 @@ oneWith f n =
       provided (eqb (firstWith f (n - (i + 1)) (i + 1)) n) 8
       done i
 
--- the checks of n entries from entry i on, in order, each reported by its number from one; each answers an end, and together they answer the largest of x and these ends
+-- the checks of n entries from entry i on, in order, each reported by its number from one; each answers an end, and together they answer the largest of
+-- x and these ends
 unfoldable pub inOrder : (ℕ → Check ℕ) → ℕ → ℕ → ℕ → Check ℕ
 inOrder t zero i x = done x
 inOrder t (suc n) i x = do

@@ -13,7 +13,7 @@ ghost use mathlib.Core.List.{[]};
 ghost use Prim.Native.Nat.{_<_};
 ghost use lib.ListN.{length};
 ghost use Rattle.reading.specs.Check.{mapAnswer, answer};
-ghost use Rattle.writing.specs.Answer.{written};
+ghost use Rattle.writing.specs.Answers.{answerOfWritten};
 ghost use Rattle.sff_write.specs.Read.{lentRead};
 ghost use Rattle.sff_write.specs.Private.{Fitting};
 ghost use Rattle.sff_write.specs.Write.{behind, writtenAt, beginning, addingFit, adding, finishing};
@@ -138,7 +138,7 @@ pub fn add(
 
 // The file's length, once all reads are written.
 pub fn finish(w: Writer) -> Written
-    ensures { λ r. ⌜ written r ≡ answer (finishing w) [] ⌝ }
+    ensures { λ r. ⌜ answerOfWritten r ≡ answer (finishing w) [] ⌝ }
 {
     if w.written != w.reads {
         return Written::Refused(9);

@@ -1,10 +1,10 @@
 // Runs the calls that no C function reaches, on the GTC file on standard input: the parts that an id or a transformation's number hands back,
 // found and refused, and what genotype codes mean.
-use gtc::genotype::Decoded;
-use gtc::genotype::Genotype;
-use gtc::genotype::genotype_of;
 use gtc::lookup::data_part;
-use gtc::transformation::transformation_part;
+use gtc_records::genotype::Decoded;
+use gtc_records::genotype::Genotype;
+use gtc_records::genotype::genotype_of;
+use gtc_records::transformation::transformation_part;
 use libc::STDIN_FILENO;
 use libc::STDOUT_FILENO;
 

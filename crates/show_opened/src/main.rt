@@ -1,12 +1,12 @@
 // Runs the calls of an opened file, none of which a C function reaches, on the ABIF file on standard input: with the place and count that opening
 // gives, with others, and on a file that is cut short.
-use abif::element::Element;
-use abif::lookup::Found;
-use abif::text::Text;
+use abif_elements::element::Element;
+use abif_elements::text::Text;
 use abif_file::file;
 use abif_file::file::AbifFile;
 use libc::STDIN_FILENO;
 use libc::STDOUT_FILENO;
+use reading::item::Found;
 use reading::part::part;
 
 // A directory's place and count.
@@ -114,7 +114,7 @@ fn put_found(r: Found) {
     match r {
         Found::Refused(n) => put_refused(n),
         Found::Data(d) => {
-            put_number(d.element_type as u64, b" ");
+            put_number(d.code as u64, b" ");
             put_number(d.count as u64, b" ");
             put_number(d.start as u64, b" ");
             put_number(d.size as u64, b"\n");

@@ -5,16 +5,16 @@ use lib.ListN.{length, getD, take, drop}
 use lib.Dec.{leb}
 use Rattle.reading.specs.Choice.{pick}
 
--- the w bytes of n, highest byte first
+-- the bytes of n, so many of them, highest byte first
 unfoldable pub digits : ℕ → ℕ → List ℕ
 digits zero n = []
-digits (suc w) n = (n / 256 ^ w % 256) ∷ digits w n
+digits (suc width) n = (n / 256 ^ width % 256) ∷ digits width n
 
--- the two bytes of each of the m numbers of v from number i on
+-- the two bytes of each of so many numbers, from number i on
 unfoldable pub words : List ℕ → ℕ → ℕ → List ℕ
-words v zero i = []
-words v (suc m) i = digits 2 (getD v i 0) ++ words v m (i + 1)
+words numbers zero i = []
+words numbers (suc count) i = digits 2 (getD numbers i 0) ++ words numbers count (i + 1)
 
--- l with v written over it from place p on; l itself where there is no room for v
+-- the output with these bytes written over it from a place on; the output itself where there is no room for them
 unfoldable pub put : List ℕ → ℕ → List ℕ → List ℕ
-put l p v = pick (leb (p + length v) (length l)) (take p l ++ (v ++ drop (p + length v) l)) l
+put out place bytes = pick (leb (place + length bytes) (length out)) (take place out ++ (bytes ++ drop (place + length bytes) out)) out

@@ -7,6 +7,12 @@ use std::fmt;
 /// The definition that makes a call one of an opened file.
 pub const OF_OPENED: &str = "ofOpened";
 
+/// What makes a reading call of a definition: the definition stands next.
+const CALLS: [&str; 3] = ["plain", "handing", "filling"];
+
+/// What makes a reading call one of an opened file: the call stands last.
+const LATER: &str = "later";
+
 /// The module that defines a name, without the words that all paths have, and its name there.
 #[derive(Clone, Debug, PartialEq, Eq, PartialOrd, Ord)]
 pub struct Origin {
@@ -73,8 +79,11 @@ impl Origins {
             &"(" => return self.definition(group(words)),
             head => self.origin(head),
         };
-        if head.name == OF_OPENED && words.len() > 1 {
+        if [OF_OPENED, LATER].contains(&&*head.name) && words.len() > 1 {
             return self.definition(last(words));
+        }
+        if CALLS.contains(&&*head.name) && words.len() > 1 {
+            return self.definition(&words[1..]);
         }
         Some(head)
     }

@@ -217,8 +217,8 @@ const OTHER_DEFINITIONS: [Change; 15] = [
     ),
     (
         SPEC,
-        "checks fields = headerReading",
-        "checks fields = judging",
+        "call fields = filling headerReading",
+        "call fields = filling judging",
         &["toy::lookup::read_header: its ensures cites toy.Lookup.header, but constructor fields in Toy.antt is toy.Judge.judging"],
     ),
     (
@@ -266,8 +266,8 @@ const NAMES: [Change; 12] = [
     ),
     (
         SPEC,
-        "checks : (c : Call)",
-        "tests : (c : Call)",
+        "call : Call → ReadingCall",
+        "call : Call → Tests",
         &[
             "constructor judge in Toy.antt: has no clause that gives its definition",
             "constructor fields in Toy.antt: has no clause that gives its definition",

@@ -46,10 +46,10 @@ pub fn constructors(text: &str, own: &str) -> Vec<Constructor> {
     }
     let code = without_comments(text, COMMENT);
     let origins = Origins::of(&code, own);
-    let checks = checks_functions(&code, &blocks);
+    let givers = givers(&code, &blocks);
     let mut found = Vec::new();
     for block in &blocks {
-        let function = checks.iter().find(|function| function.over == block.name);
+        let function = givers.iter().find(|function| function.over == block.name);
         if function.is_none() && block.name != "Call" {
             continue;
         }
@@ -58,7 +58,7 @@ pub fn constructors(text: &str, own: &str) -> Vec<Constructor> {
             found.push(Constructor {
                 name: name.clone(),
                 functions: functions.clone(),
-                definition: definition(name, &clauses, &origins, &checks),
+                definition: definition(name, &clauses, &origins, &givers),
             });
         }
     }
@@ -123,23 +123,23 @@ fn functions_in(comment: &str) -> Vec<String> {
         .collect()
 }
 
-/// A function that gives the definition of each call of a data type.
-struct Checks {
+/// A function that gives each call of a data type with its definition.
+struct Giver {
     name: String,
     over: String,
 }
 
-// The functions whose names end so, each over the first of the data types that its type names.
-fn checks_functions(code: &str, blocks: &[Block]) -> Vec<Checks> {
+// The functions that give a `ReadingCall`, each over the first of the data types that its type names.
+fn givers(code: &str, blocks: &[Block]) -> Vec<Giver> {
     let mut found = Vec::new();
     for line in code.lines().filter(|line| !line.starts_with(' ')) {
         let words = words(line);
         let colon = words.iter().position(|word| *word == ":").unwrap_or(0);
         let (name, over) = words.split_at(colon);
         let is_type = |word: &&&str| blocks.iter().any(|block| block.name == **word);
-        let name = name.last().filter(|name| name.ends_with("hecks"));
+        let name = name.last().filter(|_| over.last() == Some(&"ReadingCall"));
         if let (Some(name), Some(over)) = (name, over.iter().find(is_type)) {
-            found.push(Checks {
+            found.push(Giver {
                 name: name.to_string(),
                 over: over.to_string(),
             });
@@ -148,7 +148,7 @@ fn checks_functions(code: &str, blocks: &[Block]) -> Vec<Checks> {
     found
 }
 
-fn definition(name: &str, clauses: &[String], origins: &Origins, checks: &[Checks]) -> Definition {
+fn definition(name: &str, clauses: &[String], origins: &Origins, givers: &[Giver]) -> Definition {
     for clause in clauses {
         let words = words(clause);
         let Some(equals) = words.iter().position(|word| *word == "=") else {
@@ -163,7 +163,7 @@ fn definition(name: &str, clauses: &[String], origins: &Origins, checks: &[Check
             continue;
         }
         return match origins.definition(&words[equals + 1..]) {
-            Some(origin) if checks.iter().any(|other| other.name == origin.name) => {
+            Some(origin) if givers.iter().any(|other| other.name == origin.name) => {
                 Definition::HandedOn
             }
             Some(origin) => Definition::Is(origin),

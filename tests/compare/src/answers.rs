@@ -145,8 +145,23 @@ impl<T: Untouched> Written<T> {
         Written::by(room, |_| Listed { refusal, count: 0 })
     }
 
-    pub fn is_cut_short(&self) -> bool {
+    /// A call with an output of this room that writes this at its front, so many items.
+    pub fn holding(room: usize, front: &[T], count: usize) -> Written<T>
+    where
+        T: Copy,
+    {
+        Written::by(room, |out| {
+            out[..front.len()].copy_from_slice(front);
+            Listed {
+                refusal: 0,
+                count: count as u64,
+            }
+        })
+    }
+
+    /// Whether the output holds what it held before the call.
+    pub fn is_untouched(&self) -> bool {
         let mut places = self.out.iter().enumerate();
-        self.listed.refusal == 1 && places.all(|(place, now)| *now == T::untouched(place))
+        places.all(|(place, now)| *now == T::untouched(place))
     }
 }

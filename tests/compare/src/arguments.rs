@@ -38,6 +38,13 @@ pub fn bulk_rooms(left: usize, width: usize) -> Vec<usize> {
     distinct(rooms)
 }
 
+/// Rooms for a bulk call from this number on in a file that states so many items, of which it holds
+/// no more than `most`.
+pub fn bulk_rooms_from(first: u64, stated: u64, most: usize, width: usize) -> Vec<usize> {
+    let left = (stated + 1).saturating_sub(first.max(1));
+    bulk_rooms(left.min(most as u64) as usize, width)
+}
+
 /// Rooms for an output of so many elements.
 pub fn rooms(exact: usize) -> Vec<usize> {
     let mut rooms = vec![0, exact.saturating_sub(1), exact, exact + 3];

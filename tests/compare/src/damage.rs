@@ -1,9 +1,30 @@
-//! Random faults in files of any format.
+//! Faults in files of any format.
 
-use crate::format::Format;
+use crate::format::{Draft, Format};
 use crate::random::Random;
 
 const MOST_ENTRIES: usize = 8;
+
+/// The changes that set each field to each of its values.
+pub fn each_value<Field: Copy, Value, Change>(
+    fields: impl IntoIterator<Item = (Field, Vec<Value>)>,
+    change: impl Fn(Field, Value) -> Change,
+) -> Vec<Change> {
+    let mut changes = Vec::new();
+    for (field, values) in fields {
+        changes.extend(values.into_iter().map(|value| change(field, value)));
+    }
+    changes
+}
+
+/// The file with these changes made to it in their order.
+pub fn changed<F: Format>(file: &F::Draft, changes: &[F::Change]) -> F::Draft {
+    let mut draft = file.clone();
+    for &change in changes {
+        F::apply(change, &mut draft);
+    }
+    draft
+}
 
 /// A whole file with one to three random changes from all that the rules speak about.
 pub fn random_changes<F: Format>(random: &mut Random) -> F::Draft {
@@ -18,8 +39,8 @@ pub fn random_changes<F: Format>(random: &mut Random) -> F::Draft {
 /// A whole file with some of its bytes changed, mostly in its fields.
 pub fn random_byte_changes<F: Format>(random: &mut Random) -> Vec<u8> {
     let draft = F::random_file(random, MOST_ENTRIES);
-    let fields = F::fields(&draft);
-    let mut bytes = F::bytes(&draft);
+    let fields = draft.fields();
+    let mut bytes = draft.bytes();
     for _ in 0..random.between(1, 4) {
         let place = if random.one_in(8) {
             random.below(bytes.len())

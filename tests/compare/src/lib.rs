@@ -5,6 +5,7 @@ pub mod answers;
 pub mod arguments;
 pub mod big_endian;
 pub mod damage;
+pub mod draft;
 pub mod floats;
 pub mod format;
 pub mod groups;

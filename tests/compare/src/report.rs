@@ -12,12 +12,14 @@ const MOST_LETTERS_SHOWN: usize = 2000;
 /// What a test group does.
 pub type Run = fn(&mut Group);
 
+pub type NamedRun = (&'static str, Run);
+
 /// Runs the groups whose names begin so, and prints the closing line.
-pub fn run_groups(groups: &[(&'static str, Run)], beginning: &str) -> ExitCode {
+pub fn run_groups<N: AsRef<str>>(groups: &[(N, Run)], beginning: &str) -> ExitCode {
     let mut passed = 0;
     let mut failed = 0;
-    let chosen = groups.iter();
-    for (name, run) in chosen.filter(|(name, _)| name.starts_with(beginning)) {
+    let named = groups.iter().map(|(name, run)| (name.as_ref(), run));
+    for (name, run) in named.filter(|(name, _)| name.starts_with(beginning)) {
         let mut group = Group::new(name);
         run(&mut group);
         match group.finish() {
@@ -41,7 +43,7 @@ pub enum Outcome {
 }
 
 pub struct Group {
-    name: &'static str,
+    name: String,
     start: Instant,
     inputs: u64,
     comparisons: u64,
@@ -51,9 +53,9 @@ pub struct Group {
 }
 
 impl Group {
-    pub fn new(name: &'static str) -> Group {
+    pub fn new(name: &str) -> Group {
         Group {
-            name,
+            name: name.to_string(),
             start: Instant::now(),
             inputs: 0,
             comparisons: 0,

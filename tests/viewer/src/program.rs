@@ -80,6 +80,12 @@ pub fn output(mut command: Command) -> io::Result<Output> {
     })
 }
 
+/// Whether there are as many lines as these, each beginning with one of them in turn.
+pub fn lines_begin(text: &str, starts: &[&str]) -> bool {
+    let mut pairs = text.lines().zip(starts);
+    text.lines().count() == starts.len() && pairs.all(|(line, start)| line.starts_with(start))
+}
+
 /// The folder that the samples and the documents are in.
 pub fn repository() -> PathBuf {
     Path::new(env!("CARGO_MANIFEST_DIR")).join("../..")

@@ -30,12 +30,12 @@ use denote.Triple.Spec.{tripleOf}
 use denote.Triple.Clauses.{ensured, lasts}
 use denote.Triple.Walked.{says}
 use Rattle.abif_file.specs.declared.entry.RawEntry.{RawEntry}
-use Rattle.abif.specs.declared.numbers.Copied.{Copied}
-use Rattle.abif.specs.Numbers.{copied}
+use Rattle.reading.specs.declared.bulk.Copied.{Copied}
+use Rattle.reading.specs.Answers.{answerOfCopied}
 use Rattle.abif_file.proofs.entry.RawEntry as T
-use Rattle.abif.proofs.numbers.Copied as S
-use Rattle.abif.proofs.numbers.Copied.Laws as S′
-use Rattle.abif_file.specs.List.{toList, Present}
+use Rattle.reading.proofs.bulk.Copied as S
+use Rattle.reading.proofs.bulk.Copied.Laws as S′
+use Rattle.abif_file.specs.Private.{EntriesPresent, entriesListed}
 use Rattle.abif_file.proofs.list.to_list as num
 use Rattle.abif_file.proofs.list.fill as fill
 
@@ -64,8 +64,8 @@ module _ {M : Type 1} (𝓤 : URA M) (H : Heap 𝓤) (A : Atoms 𝓤) (W : Given
     goes-num is =
         qed W (‵ ftrue ∷ []) ∵ nothing ! $ owned ! S.the-row (Is S.the-row) (EL.makes S.the-type S′.the-plain 𝓤 H A) r (u ∷ []) is $ fjoin ! $ move ! (1 ∷ 0 ∷ []) $ join ! $ frame ! $ done !
 
-    pub said-num : (m : ℕ) → ent 𝓤 (ensured 𝓤 H A num.ended (num.clauses 𝓤 H A mem run) tt (r, tt) tt m) (fact 𝓤 (m ≡ toList (copied r)))
-    said-num m = exE 𝓤 _ (λ ws. snd∗ 𝓤 (sem 𝓤 H A (lasts num.ended tt (r, tt) ws)) (fact 𝓤 (m ≡ toList (copied r))))
+    pub said-num : (m : ℕ) → ent 𝓤 (ensured 𝓤 H A num.ended (num.clauses 𝓤 H A mem run) tt (r, tt) tt m) (fact 𝓤 (m ≡ entriesListed (answerOfCopied r)))
+    said-num m = exE 𝓤 _ (λ ws. snd∗ 𝓤 (sem 𝓤 H A (lasts num.ended tt (r, tt) ws)) (fact 𝓤 (m ≡ entriesListed (answerOfCopied r))))
 
   -- `fill` on s, the list and m
   module _ (κ κ′ : Lft) (q q′ : Share) (s : RefT (List ℕ)) (x : RefT (List RawEntry)) (m : ℕ) where
@@ -87,10 +87,10 @@ module _ {M : Type 1} (𝓤 : URA M) (H : Heap 𝓤) (A : Atoms 𝓤) (W : Given
     abbrev pub to-fill : Fill 𝓤 H A mem run .Ghost
     to-fill = (((κ, (κ′, tt)), (q, (q′, tt)), tt, args, (v ∷ [], (w ∷ [], (vint w64 m ∷ [], tt)))), tt)
 
-    asked : (m ≤ length (x .now)) × Present (now s) m → ent 𝓤 (onEntry 𝓤 H A fill.signature (κ, (κ′, tt)) (q, (q′, tt)) args (v ∷ [], (w ∷ [], (vint w64 m ∷ [], tt)))) (Fill 𝓤 H A mem run .pre to-fill)
+    asked : (m ≤ length (x .now)) × EntriesPresent (now s) m → ent 𝓤 (onEntry 𝓤 H A fill.signature (κ, (κ′, tt)) (q, (q′, tt)) args (v ∷ [], (w ∷ [], (vint w64 m ∷ [], tt)))) (Fill 𝓤 H A mem run .pre to-fill)
     asked within = qed W ((‵ (flft κ q) ⊛ (‵ (flft κ′ q′) ⊛ ‵ ftrue)) ∷ ‵ (owns (ShrSlice (named 0) κ u8 ∷ MutSlice (named 1) κ′ E ∷ usize ∷ []) args (v ∷ [], (w ∷ [], (vint w64 m ∷ [], tt)))) ∷ []) ∵ says ! within $ frame ! $ done !
 
-    pub goes-fill : (m ≤ length (x .now)) × Present (now s) m → m < 2 ^ 64 → ent 𝓤 (⋆ 𝓤 H A ((‵ (flft κ q) ⊛ (‵ (flft κ′ q′) ⊛ ‵ ftrue)) ∷ ‵ Own ∷ ‵ Out ∷ [])) (sep 𝓤 (Fill 𝓤 H A mem run .pre to-fill) (sem 𝓤 H A Own))
+    pub goes-fill : (m ≤ length (x .now)) × EntriesPresent (now s) m → m < 2 ^ 64 → ent 𝓤 (⋆ 𝓤 H A ((‵ (flft κ q) ⊛ (‵ (flft κ′ q′) ⊛ ‵ ftrue)) ∷ ‵ Own ∷ ‵ Out ∷ [])) (sep 𝓤 (Fill 𝓤 H A mem run .pre to-fill) (sem 𝓤 H A Own))
     goes-fill within m-fits =
         qed W ((‵ (flft κ q) ⊛ (‵ (flft κ′ q′) ⊛ ‵ ftrue)) ∷ ‵ Own ∷ ‵ Out ∷ []) ∵
         move ! (1 ∷ []) $ use1 W (‵ Own ⊛ ‵ Own) (shr-slice-copy 𝓤 H A W (named 0) κ u8 .twice s (v ∷ [])) $ split ! $

@@ -16,11 +16,12 @@ use Rattle.reading.proofs.Passed.{bind-ok, done-ok, must-ok}
 use Rattle.abif_file.specs.declared.entry.RawEntry.{RawEntry}
 use Rattle.abif.specs.Entry.{entryOf}
 use Rattle.abif.specs.Directory.{Directory, directory, opening}
-use Rattle.abif.specs.declared.numbers.Copied.{Copied}
+use Rattle.reading.specs.declared.bulk.Copied.{Copied}
 use Rattle.abif_file.specs.Entry.{rawEntry}
-use Rattle.abif.specs.Numbers.{copied}
+use Rattle.reading.specs.Answers.{answerOfCopied}
 use Rattle.abif.proofs.directory.Laws.{opened-at, directory-lies}
-use Rattle.abif_file.specs.List.{rawEntries, listing, toList, Present}
+use Rattle.abif_file.specs.List.{rawEntries, listing}
+use Rattle.abif_file.specs.Private.{EntriesPresent, entriesListed}
 use Rattle.abif_file.specs.Opened.{sameDirectory, ofOpened}
 
 -- the list xs after i turns: entry j of the directory at place p stands at place j
@@ -70,9 +71,9 @@ length-entries s (suc n) p = ap suc (length-entries s n (p + 28))
 
 -- what a call that lists tells: how many entries are written, and what the list then holds
 pub record Told (room : ℕ) (s : List ℕ) (a : Answer (List RawEntry)) : Type 0 where
-  pub few : toList (mapAnswer length a) ≤ room
-  pub there : Present s (toList (mapAnswer length a))
-  pub whole : (xs : List RawEntry) → rawEntries s (be 4 s 26) (toList (mapAnswer length a)) ++ drop (toList (mapAnswer length a)) xs ≡ filled a xs
+  pub few : entriesListed (mapAnswer length a) ≤ room
+  pub there : EntriesPresent s (entriesListed (mapAnswer length a))
+  pub whole : (xs : List RawEntry) → rawEntries s (be 4 s 26) (entriesListed (mapAnswer length a)) ++ drop (entriesListed (mapAnswer length a)) xs ≡ filled a xs
 
 module _ (room : ℕ) (s : List ℕ) where
   refused-told : (n e : ℕ) → Told room s (refused n e)
@@ -116,12 +117,12 @@ module _ (room : ℕ) (s : List ℕ) (p n : ℕ) (h : answer opening s ≡ ok (p
   list-all l = simp (answer-bind, answer-must, answer-done, opened-at s p n h .1, le-leb n room l, length-entries)
 
 -- what the calls that end a listing need and leave, m being how many entries `to_list` says
-module _ (room : ℕ) (s : List ℕ) (a : Answer (List RawEntry)) (t : Told room s a) (r : Copied) (m : ℕ) (e : copied r ≡ mapAnswer length a) (f : m ≡ toList (copied r)) where
-  number : m ≡ toList (mapAnswer length a)
-  number = f ∙ ap toList e
+module _ (room : ℕ) (s : List ℕ) (a : Answer (List RawEntry)) (t : Told room s a) (r : Copied) (m : ℕ) (e : answerOfCopied r ≡ mapAnswer length a) (f : m ≡ entriesListed (answerOfCopied r)) where
+  number : m ≡ entriesListed (mapAnswer length a)
+  number = f ∙ ap entriesListed e
 
-  pub fitting : (m ≤ room) × Present s m
+  pub fitting : (m ≤ room) × EntriesPresent s m
   fitting = rw number (t .few, t .there)
 
-  pub leaves : (xs zs : List RawEntry) → zs ≡ rawEntries s (be 4 s 26) m ++ drop m xs → (copied r ≡ mapAnswer length a) × (zs ≡ filled a xs)
+  pub leaves : (xs zs : List RawEntry) → zs ≡ rawEntries s (be 4 s 26) m ++ drop m xs → (answerOfCopied r ≡ mapAnswer length a) × (zs ≡ filled a xs)
   leaves xs zs g = (e, g ∙ ap (λ (k : ℕ). rawEntries s (be 4 s 26) k ++ drop k xs) number ∙ t .whole xs)

@@ -12,7 +12,8 @@ use Rattle.abif.specs.Directory.{directory, opening}
 use Rattle.abif.proofs.directory.Laws.{opened-at}
 use Rattle.abif_file.specs.declared.opened.Reopened.{Reopened}
 use Rattle.abif_file.specs.declared.opened.Reopened.the-variants.{Same, Refused}
-use Rattle.abif_file.specs.Opened.{sameDirectory, ofOpened, reopened}
+use Rattle.abif_file.specs.Opened.{sameDirectory, ofOpened}
+use Rattle.abif_file.specs.Answers.{answerOfReopened}
 
 -- place p and count n against those that opening gives
 module _ (s : List ℕ) (p n x y : ℕ) (h : answer opening s ≡ ok (x, y)) where
@@ -30,14 +31,14 @@ module _ (s : List ℕ) (p n x y : ℕ) (h : answer opening s ≡ ok (x, y)) whe
     same-both f = simp (answer-bind, answer-must, opened-at s x y h .1, eq-eqb p x e, eq-eqb n y f)
 
 -- a later call t: refused where the place and count are, else what t answers
-module _ {A : Type 0} (p n : ℕ) (t : Check A) (s : List ℕ) (r : Reopened) (h : reopened r ≡ answer (sameDirectory p n) s) where
+module _ {A : Type 0} (p n : ℕ) (t : Check A) (s : List ℕ) (r : Reopened) (h : answerOfReopened r ≡ answer (sameDirectory p n) s) where
   pub later-refused : (k : ℕ) → r ≡ Refused k → refused k 0 ≡ answer (ofOpened p n t) s
   unfolding ofOpened
-  later-refused k e = bind-refused (sameDirectory p n) (λ _. t) s k 0 (sym h ∙ ap reopened e)
+  later-refused k e = bind-refused (sameDirectory p n) (λ _. t) s k 0 (sym h ∙ ap answerOfReopened e)
 
   pub later-same : r ≡ Same → answer t s ≡ answer (ofOpened p n t) s
   unfolding ofOpened
-  later-same e = bind-answered (sameDirectory p n) (λ _. t) s tt (sym h ∙ ap reopened e)
+  later-same e = bind-answered (sameDirectory p n) (λ _. t) s tt (sym h ∙ ap answerOfReopened e)
 
 -- a later call that answers a value is the call's own
 pub later-passed : {A : Type 0} (p n : ℕ) (t : Check A) (s : List ℕ) (v : A) → answer (ofOpened p n t) s ≡ ok v → answer t s ≡ ok v

@@ -17,8 +17,10 @@ use Rattle.abif.specs.Entry.{typeOf}
 use Rattle.abif_write.specs.declared.item.Item.{Item}
 use Rattle.abif_write.specs.declared.item.Passing.{Passing}
 use Rattle.abif_write.specs.declared.item.Passing.the-variants.{Pass, Fail}
-use Rattle.abif_write.specs.ItemContents.{contentsCheck, kept}
-use Rattle.abif_write.specs.Item.{sameLengths, SameLengths, part, isTaken, countCheck, itemCheck, tagBelow, ordered, itemsCheck, passing, Sound}
+use Rattle.abif_write.specs.ItemContents.{contentsHold}
+use Rattle.abif_write.specs.Item.{records, sameLengths, bytesOf, isTaken, countCheck, itemCheck, tagBelow, ordered, itemsCheck}
+use Rattle.abif_write.specs.Private.{SameLengths, Sound}
+use Rattle.abif_write.specs.Answers.{answerOfPassing}
 
 -- a test that the code negates
 pub denied : (b : Bool) → not b ≡ true → b ≡ false
@@ -40,31 +42,35 @@ module _ (b : List ℕ) (d : Item) where
     unfolding itemCheck holds
     item-type f = simp (answer-bind, answer-must, le-leb (d .start + d .size) (length b) h, ← et, f)
 
-    module _ (f : t ≡ true) (r : Passing) (er : passing r ≡ answer (countCheck d) []) where
+    module _ (f : t ≡ true) (r : Passing) (er : answerOfPassing r ≡ answer (countCheck d) []) where
       pub item-count : (n : ℕ) → r ≡ Fail n → refused n 0 ≡ answer (itemCheck b d) []
       unfolding itemCheck holds
       item-count n q = simp (answer-bind, answer-must, le-leb (d .start + d .size) (length b) h, ← et, f, ← er, q)
 
-      module _ (q : r ≡ Pass) (y : Bool) (ey : kept y ≡ answer (contentsCheck (d .«element_type») (d .count) (part b d)) []) where
-        pub item-contents : kept y ≡ answer (itemCheck b d) []
-        unfolding itemCheck holds
-        item-contents = simp (answer-bind, answer-must, le-leb (d .start + d .size) (length b) h, ← et, f, ← er, q) ey
+      -- y says of the part that was cut out whether its contents hold
+      module _ (q : r ≡ Pass) (y : Bool) (ey : y ≡ contentsHold (d .«element_type») (d .count) (take (d .start + d .size - d .start) (drop (d .start) b))) where
+        contents-is : contentsHold (d .«element_type») (d .count) (bytesOf b d) ≡ y
+        contents-is =
+            let k : d .start + d .size - d .start ≡ d .size = omega arith in
+            sym (rw k at ey)
 
--- the contents of the part that was cut out
-pub contents-part : (b : List ℕ) (d : Item) (y : Bool) → kept y ≡ answer (contentsCheck (d .«element_type») (d .count) (take (d .start + d .size - d .start) (drop (d .start) b))) [] → kept y ≡ answer (contentsCheck (d .«element_type») (d .count) (part b d)) []
-contents-part b d y e =
-    let k : d .start + d .size - d .start ≡ d .size = omega arith in
-    rw k at e
+        pub item-bad : y ≡ false → refused 11 0 ≡ answer (itemCheck b d) []
+        unfolding itemCheck holds
+        item-bad p = simp (answer-bind, answer-must, le-leb (d .start + d .size) (length b) h, ← et, f, ← er, q, contents-is, p)
+
+        pub item-good : y ≡ true → ok tt ≡ answer (itemCheck b d) []
+        unfolding itemCheck holds
+        item-good p = simp (answer-bind, answer-must, le-leb (d .start + d .size) (length b) h, ← et, f, ← er, q, contents-is, p)
 
 -- what the count's check leaves
-pub count-few : (d : Item) (r : Passing) → passing r ≡ answer (countCheck d) [] → r ≡ Pass → d .count < 0x80000000
+pub count-few : (d : Item) (r : Passing) → answerOfPassing r ≡ answer (countCheck d) [] → r ≡ Pass → d .count < 0x80000000
 unfolding countCheck holds
 count-few d r e f =
-    let z = bind-ok _ _ [] tt (sym e ∙ ap passing f) in
+    let z = bind-ok _ _ [] tt (sym e ∙ ap answerOfPassing f) in
     leb-false _ _ (denied _ (must-ok _ _ _ [] (z .0) (z .1)))
 
 -- a turn of the loop over items
-module _ (g : ℕ → Item) (b : List ℕ) (i : ℕ) (d : Item) (e : d ≡ g i) (r : Passing) (er : passing r ≡ answer (itemCheck b d) []) where
+module _ (g : ℕ → Item) (b : List ℕ) (i : ℕ) (d : Item) (e : d ≡ g i) (r : Passing) (er : answerOfPassing r ≡ answer (itemCheck b d) []) where
   pub items-stop : (n : ℕ) → r ≡ Fail n → (m : ℕ) → answer (itemsCheck g b (suc m) i) [] ≡ refused n 0
   unfolding itemsCheck
   items-stop n f m = simp (answer-bind, ← e, ← er, f)
@@ -101,8 +107,8 @@ module _ (g : ℕ → Item) (b : List ℕ) where
       record {
         present = leb-true _ _ (must-ok _ _ _ [] (x .0) (x .1));
         taken = must-ok _ _ _ [] (y .0) (y .1);
-        few = leb-false _ _ (denied _ (must-ok _ _ _ [] (z .0) (z .1)));
-        small = leb-false _ _ (denied _ (must-ok _ _ _ [] (w .0) (w .1)));
+        count-fits = leb-false _ _ (denied _ (must-ok _ _ _ [] (z .0) (z .1)));
+        size-fits = leb-false _ _ (denied _ (must-ok _ _ _ [] (w .0) (w .1)));
         sized = eqb-true _ _ (must-ok _ _ _ [] (v .0) (w .2));
       }
 
@@ -123,11 +129,11 @@ module _ (g : ℕ → Item) (b : List ℕ) where
           subst (λ (j : ℕ). Sound b (g j) × (ordered g j ≡ true)) w s
 
 -- slices of one length
-pub lengths-same : (names : List ℕ) (numbers types : List ℤ) (counts starts lengths : List ℕ) → sameLengths names numbers types counts starts lengths ≡ true → SameLengths names numbers types counts starts lengths
+pub lengths-same : (names : List ℕ) (numbers types : List ℤ) (counts starts lengths : List ℕ) → sameLengths (records names numbers types counts starts lengths) ≡ true → SameLengths (records names numbers types counts starts lengths)
 lengths-same names numbers types counts starts lengths h =
     go (eqb (length numbers) (length names)) refl (eqb (length types) (length names)) refl (eqb (length counts) (length names)) refl (eqb (length starts) (length names)) refl h
   where
-    go : (a : Bool) → eqb (length numbers) (length names) ≡ a → (b : Bool) → eqb (length types) (length names) ≡ b → (c : Bool) → eqb (length counts) (length names) ≡ c → (d : Bool) → eqb (length starts) (length names) ≡ d → pick a (pick b (pick c (pick d (eqb (length lengths) (length names)) false) false) false) false ≡ true → SameLengths names numbers types counts starts lengths
+    go : (a : Bool) → eqb (length numbers) (length names) ≡ a → (b : Bool) → eqb (length types) (length names) ≡ b → (c : Bool) → eqb (length counts) (length names) ≡ c → (d : Bool) → eqb (length starts) (length names) ≡ d → pick a (pick b (pick c (pick d (eqb (length lengths) (length names)) false) false) false) false ≡ true → SameLengths (records names numbers types counts starts lengths)
     go true a true b true c true d e =
         record { of-numbers = eqb-true _ _ a; of-types = eqb-true _ _ b; of-counts = eqb-true _ _ c; of-starts = eqb-true _ _ d; of-lengths = eqb-true _ _ e }
     go false a s b t c u d e = no e

@@ -16,7 +16,9 @@ use Rattle.writing.proofs.Over.{put-room}
 use Rattle.abif_write.specs.declared.item.Item.{Item}
 use Rattle.abif_write.specs.declared.item.Passing.{Passing}
 use Rattle.abif_write.specs.declared.item.Passing.the-variants.{Pass, Fail}
-use Rattle.abif_write.specs.Item.{given, sameLengths, ordered, itemsCheck, passing, Sound, Accepted}
+use Rattle.abif_write.specs.Item.{records, itemAt, sameLengths, ordered, itemsCheck}
+use Rattle.abif_write.specs.Private.{Sound, Accepted}
+use Rattle.abif_write.specs.Answers.{answerOfPassing}
 use Rattle.abif_write.specs.File.{directoryPlace, file, fileCheck}
 use Rattle.abif_write.specs.Write.{writing}
 use Rattle.abif_write.proofs.item.Laws.{items-sound, lengths-same}
@@ -54,35 +56,35 @@ file-written g b o l n p s m ep h k e =
     let q : 0 + length (file g b n) ≡ length (file g b n) = omega arith in
     (rw (r, z), rw r (e ∙ put-room o 0 (file g b n) (omega arith) ∙ ap (λ (i : ℕ). file g b n ++ drop i o) q))
 
-module _ (names : List ℕ) (numbers types : List ℤ) (counts starts lengths b : List ℕ) (room : ℕ) (t : Bool) (et : t ≡ sameLengths names numbers types counts starts lengths) where
-  pub write-uneven : t ≡ false → answer (writing names numbers types counts starts lengths b room) [] ≡ refused 9 0
+module _ (names : List ℕ) (numbers types : List ℤ) (counts starts lengths b : List ℕ) (room : ℕ) (t : Bool) (et : t ≡ sameLengths (records names numbers types counts starts lengths)) where
+  pub write-uneven : t ≡ false → answer (writing (records names numbers types counts starts lengths) b room) [] ≡ refused 9 0
   unfolding writing holds
   write-uneven f = simp (answer-bind, answer-must, ← et, f)
 
-  module _ (f : t ≡ true) (r : Passing) (er : passing r ≡ answer (itemsCheck (given names numbers types counts starts lengths) b (length names) 0) []) where
-    pub write-refused : (n : ℕ) → r ≡ Fail n → answer (writing names numbers types counts starts lengths b room) [] ≡ refused n 0
+  module _ (f : t ≡ true) (r : Passing) (er : answerOfPassing r ≡ answer (itemsCheck (itemAt (records names numbers types counts starts lengths)) b (length names) 0) []) where
+    pub write-refused : (n : ℕ) → r ≡ Fail n → answer (writing (records names numbers types counts starts lengths) b room) [] ≡ refused n 0
     unfolding writing holds
     write-refused n q = simp (answer-bind, answer-must, ← et, f, ← er, q)
 
-    pub write-on : r ≡ Pass → answer (writing names numbers types counts starts lengths b room) [] ≡ answer (fileCheck (given names numbers types counts starts lengths) b (length names) room) []
+    pub write-on : r ≡ Pass → answer (writing (records names numbers types counts starts lengths) b room) [] ≡ answer (fileCheck (itemAt (records names numbers types counts starts lengths)) b (length names) room) []
     unfolding writing holds
     write-on q = simp (answer-bind, answer-must, ← et, f, ← er, q)
 
-    pub accepted : r ≡ Pass → Accepted names numbers types counts starts lengths b
+    pub accepted : r ≡ Pass → Accepted (records names numbers types counts starts lengths) b
     accepted q =
         record {
-          even = lengths-same names numbers types counts starts lengths (sym et ∙ f);
-          sound = λ k l. items-sound (given names numbers types counts starts lengths) b (length names) 0 tt (sym er ∙ ap passing q) k (omega arith) (omega arith) .0;
+          same-lengths = lengths-same names numbers types counts starts lengths (sym et ∙ f);
+          sound = λ k l. items-sound (itemAt (records names numbers types counts starts lengths)) b (length names) 0 tt (sym er ∙ ap answerOfPassing q) k (omega arith) (omega arith) .0;
         }
 
 -- what a call that wrote the file f has passed
 pub record Made (names : List ℕ) (numbers types : List ℤ) (counts starts lengths b f : List ℕ) : Type 0 where
-  pub checked : (k : ℕ) → k < length names → Sound b (given names numbers types counts starts lengths k) × (ordered (given names numbers types counts starts lengths) k ≡ true)
+  pub checked : (k : ℕ) → k < length names → Sound b (itemAt (records names numbers types counts starts lengths) k) × (ordered (itemAt (records names numbers types counts starts lengths)) k ≡ true)
   pub few : length names ≤ 999
-  pub short : length (file (given names numbers types counts starts lengths) b (length names)) ≤ 0x7fffffff
-  pub is : file (given names numbers types counts starts lengths) b (length names) ≡ f
+  pub short : length (file (itemAt (records names numbers types counts starts lengths)) b (length names)) ≤ 0x7fffffff
+  pub is : file (itemAt (records names numbers types counts starts lengths)) b (length names) ≡ f
 
-pub made : (names : List ℕ) (numbers types : List ℤ) (counts starts lengths b : List ℕ) (room : ℕ) (f : List ℕ) → answer (writing names numbers types counts starts lengths b room) [] ≡ ok f → Made names numbers types counts starts lengths b f
+pub made : (names : List ℕ) (numbers types : List ℤ) (counts starts lengths b : List ℕ) (room : ℕ) (f : List ℕ) → answer (writing (records names numbers types counts starts lengths) b room) [] ≡ ok f → Made names numbers types counts starts lengths b f
 unfolding writing fileCheck holds
 made names numbers types counts starts lengths b room f h =
     let a = bind-ok _ _ [] f h in
@@ -91,7 +93,7 @@ made names numbers types counts starts lengths b room f h =
     let e = bind-ok _ _ [] f (d .2) in
     let r = bind-ok _ _ [] f (e .2) in
     record {
-      checked = λ k l. items-sound (given names numbers types counts starts lengths) b (length names) 0 (c .0) (c .1) k (omega arith) (omega arith);
+      checked = λ k l. items-sound (itemAt (records names numbers types counts starts lengths)) b (length names) 0 (c .0) (c .1) k (omega arith) (omega arith);
       few = leb-true _ _ (must-ok _ _ _ [] (d .0) (d .1));
       short = leb-true _ _ (must-ok _ _ _ [] (e .0) (e .1));
       is = done-ok _ f [] (r .2);

@@ -18,14 +18,14 @@ use denote.Enum.Laws as EL
 use denote.Triple.Statement.{Contract}
 use denote.Triple.Spec.{tripleOf}
 use denote.Triple.Clauses.{ensured, lasts}
-use Rattle.abif.specs.declared.numbers.Copied.{Copied}
-use Rattle.abif.specs.Numbers.{copied}
+use Rattle.reading.specs.declared.bulk.Copied.{Copied}
+use Rattle.reading.specs.Answers.{answerOfCopied}
 use Rattle.abif_file.proofs.entry.RawEntry as R
-use Rattle.abif.proofs.numbers.Copied as S
-use Rattle.abif.proofs.numbers.Copied.Laws as S′
+use Rattle.reading.proofs.bulk.Copied as S
+use Rattle.reading.proofs.bulk.Copied.Laws as S′
 use Rattle.capi.specs.declared.answers.Listed.{Listed}
 use Rattle.capi.specs.Answers.{asListed}
-use Rattle.capi.proofs.jt_abif.as_listed as made
+use Rattle.capi.proofs.answers.as_listed as made
 
 abbrev pub E : RattleType
 E = R.the-row
@@ -44,5 +44,5 @@ module _ {M : Type 1} (𝓤 : URA M) (H : Heap 𝓤) (A : Atoms 𝓤) (W : Given
   goes-as is =
       qed W (‵ ftrue ∷ []) ∵ nothing ! $ owned ! S.the-row (Is S.the-row) (EL.makes S.the-type S′.the-plain 𝓤 H A) r (u ∷ []) is $ fjoin ! $ move ! (1 ∷ 0 ∷ []) $ join ! $ frame ! $ done !
 
-  pub said-as : (z : Listed) → ent 𝓤 (ensured 𝓤 H A made.ended (made.clauses 𝓤 H A mem run) tt (r, tt) tt z) (fact 𝓤 (z ≡ asListed (copied r)))
-  said-as z = exE 𝓤 _ (λ ws. snd∗ 𝓤 (sem 𝓤 H A (lasts made.ended tt (r, tt) ws)) (fact 𝓤 (z ≡ asListed (copied r))))
+  pub said-as : (z : Listed) → ent 𝓤 (ensured 𝓤 H A made.ended (made.clauses 𝓤 H A mem run) tt (r, tt) tt z) (fact 𝓤 (z ≡ asListed (answerOfCopied r)))
+  said-as z = exE 𝓤 _ (λ ws. snd∗ 𝓤 (sem 𝓤 H A (lasts made.ended tt (r, tt) ws)) (fact 𝓤 (z ≡ asListed (answerOfCopied r))))

@@ -12,7 +12,8 @@ use Rattle.reading.proofs.Passed.{bind-ok, done-ok}
 use Rattle.reading.proofs.Reach.{reach-none}
 use Rattle.reading.proofs.Entries.{first-has, one-ok, one-needs-none}
 use Rattle.gtc.specs.declared.entry.Entry.{Entry}
-use Rattle.gtc.specs.Entry.{entryPlace, entryOf, hasId, entryWith}
+use Rattle.gtc.specs.Entry.{entryOf, hasId, entryWith}
+use Rattle.gtc.specs.Table.{entryPlace}
 
 -- the entry that is found stands in the table, and has the id
 pub with-found : (l h : List ℕ) (n k : ℕ) (d : Entry) → answer (entryWith h n k) l ≡ ok d → (i : ℕ) × (i < n) × (d ≡ entryOf h (entryPlace i)) × (d .id ≡ k)

@@ -9,6 +9,7 @@ use lib.Dec.{eqb}
 use borrow.Author.Tests.{eqb-true, le-leb, lt-leb}
 use Rattle.reading.specs.Choice.{pick}
 use Rattle.reading.specs.Number.{be, le}
+use Rattle.reading.specs.declared.check.Test.{Test}
 use Rattle.reading.specs.declared.check.Rule.the-variants.{NotNegative}
 use Rattle.reading.specs.Check.{passed, failed, short, ok, holds, run, answer, _>>=_}
 use Rattle.reading.proofs.Needed.{reach}
@@ -23,7 +24,7 @@ use Rattle.gtc.specs.declared.item.Stored.the-variants.{Value, Shaped}
 use Rattle.gtc.specs.declared.item.Listing.the-variants.{Listed, Unlisted}
 use Rattle.gtc.specs.declared.item.Shape.{Shape}
 use Rattle.gtc.specs.declared.item.Shape.the-variants.{Text, Array, SnpArray, Scanner, Block}
-use Rattle.gtc.specs.declared.item.ItemData.{ItemData}
+use Rattle.reading.specs.declared.item.ItemData.{ItemData}
 use Rattle.gtc.specs.declared.entry.Entry.{Entry}
 use Rattle.gtc.specs.Item.{Row, listingIn, stringEnd, scannerRest, scannerEnd, countField, arrayCount, itemEnd, elementsOf, snpCheck, shapeCheck, shapedCheck, itemCheck}
 use Rattle.gtc.proofs.entry.Laws.{with-none-needed}
@@ -55,6 +56,9 @@ module _ (s : List ℕ) (p : ℕ) (h : p + 4 ≤ length s) (n : ℕ) (q : n ≡ 
   pub count-at : n < 0x80000000 → passed n ≡ run (arrayCount p) s
   unfolding arrayCount holds
   count-at l = simp (run-bind, run-need-present p (p + 4) s h, count-taken s p n q, run-must, lt-leb 0x80000000 n l, run-done)
+
+pub failed-not : {A : Type 0} {w : Test} {e : ℕ} {a : A} → failed w e ≡ passed a → ⊥
+failed-not h = let z : _≡_ {A = ℕ} 0 1 = cc in omega arith
 
 -- the length of the string at place p, in the bytes up to it
 length-taken : (s : List ℕ) (p n : ℕ) → n ≡ be 1 s p → le 1 (take (p + 1) s) p ≡ n

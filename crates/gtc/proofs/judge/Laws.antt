@@ -21,13 +21,14 @@ use Rattle.gtc.specs.declared.entry.Entry.{Entry}
 use Rattle.gtc.specs.declared.item.Stored.{Stored}
 use Rattle.gtc.specs.declared.item.Listing.{Listing}
 use Rattle.gtc.specs.declared.item.Listing.the-variants.{Listed}
-use Rattle.gtc.specs.declared.item.Item.{Item}
-use Rattle.gtc.specs.declared.item.Item.the-variants as Item
-use Rattle.gtc.specs.declared.item.ItemData.{ItemData}
-use Rattle.gtc.specs.Table.{tableEnd}
-use Rattle.gtc.specs.Entry.{entryPlace, entryOf, idField}
-use Rattle.gtc.specs.Item.{listingOf, isListed, itemCheck, itemEnd, item}
-use Rattle.gtc.specs.Judge.{idAmong, newId, judgeAs, judgeEntry, unjudgedAmong, judgeTable}
+use Rattle.gtc.specs.declared.item.ItemRead.{ItemRead}
+use Rattle.gtc.specs.declared.item.ItemRead.the-variants as ItemRead
+use Rattle.reading.specs.declared.item.ItemData.{ItemData}
+use Rattle.gtc.specs.Table.{tableEnd, entryPlace}
+use Rattle.gtc.specs.Entry.{entryOf, idField}
+use Rattle.gtc.specs.Item.{listingOf, isListed, itemCheck, itemEnd}
+use Rattle.gtc.specs.Answers.{outcomeOfItemRead}
+use Rattle.gtc.specs.Judge.{isEarlier, newId, judgeAs, judgeEntry, unjudgedAmong, judgeTable}
 
 -- one entry more is counted
 pub unjudged-on : (h : List ℕ) (u v i m : ℕ) → v ≡ pick (isListed (listingOf (le 2 h (entryPlace i)))) 0 1 → u + unjudgedAmong h (suc m) i ≡ u + v + unjudgedAmong h m (i + 1)
@@ -35,21 +36,21 @@ unfolding unjudgedAmong
 unjudged-on h u v i m q = rw (← q) (simp add-assoc)
 
 -- a listed entry
-module _ (s h : List ℕ) (n i : ℕ) (v : Stored) (d : Entry) (t : Bool) (qt : t ≡ idAmong h (d .id) i) where
+module _ (s h : List ℕ) (n i : ℕ) (v : Stored) (d : Entry) (t : Bool) (qt : t ≡ isEarlier h (d .id) i) where
   pub listed-twice : t ≡ true → failed (record { field = idField d; rule = Other newId false; number = 8 }) 0 ≡ run (judgeAs (Listed v) h n i d) s
   unfolding judgeAs holds
   listed-twice g = simp (run-bind, run-must, ← qt, g)
 
-  module _ (g : t ≡ false) (r : Item) (qr : item r ≡ run (itemCheck v h n d) s) where
-    pub listed-bad : (w : Test) → r ≡ Item.Bad w → failed w 0 ≡ run (judgeAs (Listed v) h n i d) s
+  module _ (g : t ≡ false) (r : ItemRead) (qr : outcomeOfItemRead r ≡ run (itemCheck v h n d) s) where
+    pub listed-failed : (w : Test) → r ≡ ItemRead.Failed w → failed w 0 ≡ run (judgeAs (Listed v) h n i d) s
     unfolding judgeAs holds
-    listed-bad w f = simp (run-bind, run-must, ← qt, g, ← qr, f)
+    listed-failed w f = simp (run-bind, run-must, ← qt, g, ← qr, f)
 
-    pub listed-short : (p m : ℕ) → r ≡ Item.Short p m → short (record { start = p; end = m }) 0 ≡ run (judgeAs (Listed v) h n i d) s
+    pub listed-short : (p m : ℕ) → r ≡ ItemRead.Short p m → short (record { start = p; end = m }) 0 ≡ run (judgeAs (Listed v) h n i d) s
     unfolding judgeAs holds
     listed-short p m f = simp (run-bind, run-must, ← qt, g, ← qr, f)
 
-    pub listed-end : (q : ItemData) → r ≡ Item.At q → passed (itemEnd q) ≡ run (judgeAs (Listed v) h n i d) s
+    pub listed-end : (q : ItemData) → r ≡ ItemRead.At q → passed (itemEnd q) ≡ run (judgeAs (Listed v) h n i d) s
     unfolding judgeAs holds
     listed-end q f = simp (run-bind, run-must, ← qt, g, ← qr, f, run-done)
 

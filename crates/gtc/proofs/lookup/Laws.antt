@@ -1,21 +1,22 @@
 -- Lookup, from the answers of its parts.
 use Prim.Native.Nat.{ℕ, _+_, _≤_}
-use mathlib.Core.Path.{_≡_, sym, _∙_, ap}
+use mathlib.Core.Path.{_≡_, refl, sym, _∙_, ap}
 use mathlib.Core.List.{List}
+use mathlib.Core.Bool.{false}
 use native.Mathlib.Omega.{arith}
 use lib.ListN.{length}
-use Rattle.reading.specs.Check.{ok, refused, answer, holds, done}
-use Rattle.reading.proofs.Steps.{answer-bind, answer-must, answer-done}
-use Rattle.reading.proofs.Passed.{bind-ok, bind-answered, done-ok, not-ok}
+use Rattle.reading.specs.Check.{ok, refused, answer, holds, provided}
+use Rattle.reading.proofs.Steps.{answer-bind, answer-must}
+use Rattle.reading.proofs.Passed.{bind-ok, not-ok}
 use Rattle.gtc.specs.declared.entry.Entry.{Entry}
 use Rattle.gtc.specs.declared.item.Stored.{Stored}
 use Rattle.gtc.specs.declared.item.Listing.{Listing}
 use Rattle.gtc.specs.declared.item.Listing.the-variants.{Listed, Unlisted}
-use Rattle.gtc.specs.declared.item.ItemData.{ItemData}
+use Rattle.reading.specs.declared.item.ItemData.{ItemData}
 use Rattle.gtc.specs.Table.{tableEnd, table}
 use Rattle.gtc.specs.Entry.{entryWith}
-use Rattle.gtc.specs.Item.{listingOf}
-use Rattle.gtc.specs.Lookup.{storedAs, lookupListed, lookupIn, lookingUp}
+use Rattle.gtc.specs.Item.{listingOf, isListed}
+use Rattle.gtc.specs.Lookup.{storedOf, lookupListed, lookupIn, lookingUp}
 use Rattle.gtc.proofs.table.Laws.{table-found}
 use Rattle.gtc.proofs.entry.Laws.{with-found, entry-place}
 use Rattle.gtc.proofs.item.Laws.{item-within}
@@ -23,19 +24,19 @@ use Rattle.gtc.proofs.item.Laws.{item-within}
 -- a listed id goes on to its entry, an unlisted one is 10
 module _ (s h : List ℕ) (n k : ℕ) where
   pub in-listed : (v : Stored) → listingOf k ≡ Listed v → answer (lookupListed v h n k) s ≡ answer (lookupIn h n k) s
-  unfolding lookupIn storedAs
-  in-listed v e = rw e (bind-answered (done v) _ s v (answer-done v s))
+  unfolding lookupIn holds
+  in-listed v e = rw e (simp (answer-bind, answer-must))
 
   pub in-unlisted : listingOf k ≡ Unlisted → refused 10 0 ≡ answer (lookupIn h n k) s
-  unfolding lookupIn storedAs holds
+  unfolding lookupIn holds
   in-unlisted e = rw e (simp (answer-bind, answer-must))
 
--- how an id that is found is stored
-pub stored-ok : (l : Listing) (s : List ℕ) (v : Stored) → answer (storedAs l) s ≡ ok v → l ≡ Listed v
-unfolding storedAs holds
-stored-ok (Listed u) s v w = ap Listed (done-ok u v s w)
-stored-ok Unlisted s v w =
-    let z : answer (storedAs Unlisted) s ≡ refused 10 0 = simp (answer-bind, answer-must) in
+-- an id that is looked up is listed
+pub listed-ok : (l : Listing) (s : List ℕ) (u : Unit {0}) → answer (provided (isListed l) 10) s ≡ ok u → l ≡ Listed (storedOf l)
+unfolding holds
+listed-ok (Listed v) s u w = refl
+listed-ok Unlisted s u w =
+    let z : answer (provided false 10) s ≡ refused 10 0 = simp answer-must in
     absurd (not-ok (sym z ∙ w))
 
 -- the entry that is found ends within the table
@@ -50,9 +51,9 @@ pub lookup-within : (k : ℕ) (s : List ℕ) (q : ItemData) → answer (lookingU
 unfolding lookingUp lookupIn lookupListed
 lookup-within k s q w =
     let t = bind-ok table _ s q w in
-    let a = bind-ok (storedAs (listingOf k)) _ s q (t .2) in
+    let a = bind-ok (provided (isListed (listingOf k)) 10) _ s q (t .2) in
     let b = bind-ok _ _ s q (a .2) in
     let f = table-found s (t .0) (t .1) in
     let p = found-place s (t .0 .upTo) (t .0 .count) k (b .0) (b .1) in
-    let i = item-within (a .0) (t .0 .upTo) (t .0 .count) (b .0) s q (b .2) in
+    let i = item-within (storedOf (listingOf k)) (t .0 .upTo) (t .0 .count) (b .0) s q (b .2) in
     omega arith

@@ -11,22 +11,23 @@ use Rattle.reading.proofs.Cut.{answer-plain}
 use Rattle.reading.proofs.Steps.{run-bind, run-done, run-need-present, run-need-absent}
 use Rattle.reading.proofs.Passed.{bind-ok, need-ok, done-ok, bind-refused, bind-answered, map-refused}
 use Rattle.reading.proofs.Width.{byte-le, le-split}
-use Rattle.gtc.specs.declared.table.TableRead.{TableRead}
-use Rattle.gtc.specs.declared.table.TableRead.the-variants.{Good, Bad, Short}
-use Rattle.gtc.specs.Table.{Table, tableEnd, markCheck, countCheck, table, entryCount, read}
+use Rattle.gtc.specs.declared.table.Counted.{Counted}
+use Rattle.gtc.specs.declared.table.Counted.the-variants.{Count, Failed, Short}
+use Rattle.gtc.specs.Table.{Table, headerSize, tableEnd, identifierCheck, countCheck, table, entryCount}
+use Rattle.gtc.specs.Answers.{outcomeOfCounted}
 
--- the mark, from its two lower bytes and its upper one
-pub mark-bytes : (h : List ℕ) (a b : ℕ) → a ≡ le 2 h 0 → b ≡ be 1 h 2 → a + 65536 * b ≡ le 3 h 0
-mark-bytes h a b qa qb =
+-- the identifier, from its two lower bytes and its upper one
+pub identifier-bytes : (h : List ℕ) (a b : ℕ) → a ≡ le 2 h 0 → b ≡ be 1 h 2 → a + 65536 * b ≡ le 3 h 0
+identifier-bytes h a b qa qb =
     let e : le 3 h 0 ≡ le 2 h 0 + le 1 h 2 * 65536 = le-split 2 1 h 0 in
     rw (e, qa, qb, byte-le h 2) (omega arith)
 
 -- the number of entries that the header tells, and what the two groups of tests find
 abbrev pub entries : List ℕ → ℕ
-entries s = le 4 (take 8 s) 4
+entries s = le 4 (take headerSize s) 4
 
-abbrev pub marked : List ℕ → Outcome (Unit {0})
-marked s = run (markCheck (le 3 (take 8 s) 0) (le 1 (take 8 s) 3)) s
+abbrev pub identified : List ℕ → Outcome (Unit {0})
+identified s = run (identifierCheck (le 3 (take headerSize s) 0) (le 1 (take headerSize s) 3)) s
 
 abbrev pub numbered : List ℕ → Outcome (Unit {0})
 numbered s = run (countCheck (entries s)) s
@@ -37,11 +38,11 @@ module _ (s : List ℕ) where
   table-short h = simp (run-bind, run-need-absent 0 8 s h)
 
   module _ (h : 8 ≤ length s) where
-    pub table-mark : (t : Test) → marked s ≡ failed t 0 → failed t 0 ≡ run entryCount s
+    pub table-identifier : (t : Test) → identified s ≡ failed t 0 → failed t 0 ≡ run entryCount s
     unfolding entryCount table
-    table-mark t m = simp (run-need-present 0 8 s h, run-bind, m)
+    table-identifier t m = simp (run-need-present 0 8 s h, run-bind, m)
 
-    module _ (m : marked s ≡ passed tt) where
+    module _ (m : identified s ≡ passed tt) where
       pub table-count : (t : Test) → numbered s ≡ failed t 0 → failed t 0 ≡ run entryCount s
       unfolding entryCount table
       table-count t k = simp (run-need-present 0 8 s h, run-bind, m, k)
@@ -50,9 +51,9 @@ module _ (s : List ℕ) where
       unfolding entryCount table
       table-cut k l = simp (run-need-present 0 8 s h, run-bind, m, k, run-need-absent 8 (tableEnd (entries s)) s l, run-done)
 
-      pub table-good : numbered s ≡ passed tt → tableEnd (entries s) ≤ length s → passed (entries s) ≡ run entryCount s
+      pub table-whole : numbered s ≡ passed tt → tableEnd (entries s) ≤ length s → passed (entries s) ≡ run entryCount s
       unfolding entryCount table
-      table-good k l = simp (run-need-present 0 8 s h, run-bind, m, k, run-need-present 8 (tableEnd (entries s)) s l, run-done)
+      table-whole k l = simp (run-need-present 0 8 s h, run-bind, m, k, run-need-present 8 (tableEnd (entries s)) s l, run-done)
 
 -- a table of n entries that the file s begins with
 abbrev pub tableIn : List ℕ → ℕ → Table
@@ -83,22 +84,22 @@ table-at s n w =
     (rw (← e) (f .0), rw (← e) (a .1 ∙ ap ok (f .1)))
 
 -- what the code has read
-module _ (s : List ℕ) (r : TableRead) (q : read r ≡ run entryCount s) where
-  counted : answerOfOutcome (read r) ≡ answer entryCount s
+module _ (s : List ℕ) (r : Counted) (q : outcomeOfCounted r ≡ run entryCount s) where
+  counted : answerOfOutcome (outcomeOfCounted r) ≡ answer entryCount s
   counted = ap answerOfOutcome q ∙ sym (answer-plain entryCount s)
 
-  pub count-good : (n : ℕ) → r ≡ Good n → answer entryCount s ≡ ok n
-  count-good n w = sym counted ∙ ap (λ (x : TableRead). answerOfOutcome (read x)) w
+  pub count-known : (n : ℕ) → r ≡ Count n → answer entryCount s ≡ ok n
+  count-known n w = sym counted ∙ ap (λ (x : Counted). answerOfOutcome (outcomeOfCounted x)) w
 
   -- a call that begins with the table's checks: refused where they are, else what follows them
   module _ {B : Type 0} (f : Table → Check B) where
-    pub after-bad : (t : Test) → r ≡ Bad t → refused (t .number) 0 ≡ answer (table >>= f) s
+    pub after-failed : (t : Test) → r ≡ Failed t → refused (t .number) 0 ≡ answer (table >>= f) s
     unfolding entryCount
-    after-bad t w = bind-refused table f s _ 0 (map-refused table (λ t. t .count) s _ 0 (sym counted ∙ ap (λ (x : TableRead). answerOfOutcome (read x)) w))
+    after-failed t w = bind-refused table f s _ 0 (map-refused table (λ t. t .count) s _ 0 (sym counted ∙ ap (λ (x : Counted). answerOfOutcome (outcomeOfCounted x)) w))
 
     pub after-short : (p m : ℕ) → r ≡ Short p m → refused 1 0 ≡ answer (table >>= f) s
     unfolding entryCount
-    after-short p m w = bind-refused table f s _ 0 (map-refused table (λ t. t .count) s _ 0 (sym counted ∙ ap (λ (x : TableRead). answerOfOutcome (read x)) w))
+    after-short p m w = bind-refused table f s _ 0 (map-refused table (λ t. t .count) s _ 0 (sym counted ∙ ap (λ (x : Counted). answerOfOutcome (outcomeOfCounted x)) w))
 
-    pub after-good : (n : ℕ) → r ≡ Good n → answer (f (tableIn s n)) s ≡ answer (table >>= f) s
-    after-good n w = bind-answered table f s _ (table-at s n (count-good n w) .1)
+    pub after-count : (n : ℕ) → r ≡ Count n → (e : ℕ) → e ≡ tableEnd n → answer (f (record { count = n; upTo = take e s })) s ≡ answer (table >>= f) s
+    after-count n w e h = rw h (bind-answered table f s _ (table-at s n (count-known n w) .1))

@@ -35,9 +35,9 @@ use denote.Triple.Table.{entered, cited}
 use denote.Triple.Walked.{Stays, stay-none, stay-none-slice, walkOf, goes-none, goes-none-slice, Walks, ends-at, walked, walk-meets}
 use denote.Exit.{yes}
 use denote.Triple.Clauses.{ensured}
-use Rattle.abif.specs.declared.element.Element.{Element}
-use Rattle.abif.proofs.element.Element as S
-use Rattle.abif.proofs.element.Element.Laws as S′
+use Rattle.abif_elements.specs.declared.element.Element.{Element}
+use Rattle.abif_elements.proofs.element.Element as S
+use Rattle.abif_elements.proofs.element.Element.Laws as S′
 use Rattle.abif_file.specs.declared.file.AbifFile.{AbifFile}
 use Rattle.abif_file.proofs.file.AbifFile.Laws as T′
 use Rattle.abif_file.proofs.file.read_element as step

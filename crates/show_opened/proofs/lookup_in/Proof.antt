@@ -4,8 +4,8 @@ use denote.Enum.Laws as EL
 use denote.Signature.{plain}
 use denote.Triple.Spec.{tripleOf}
 use denote.Triple.Table.{entered, cited}
-use Rattle.abif.proofs.lookup.Found as S
-use Rattle.abif.proofs.lookup.Found.Laws as S′
+use Rattle.reading.proofs.item.Found as S
+use Rattle.reading.proofs.item.Found.Laws as S′
 use Rattle.abif_file.proofs.file.lookup as step
 use Rattle.abif_file.proofs.file.lookup.Symbol as step-def
 use Rattle.abif_file.proofs.file.lookup.Met as step-thm

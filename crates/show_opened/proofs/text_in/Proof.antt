@@ -4,8 +4,8 @@ use denote.Enum.Laws as EL
 use denote.Signature.{plain}
 use denote.Triple.Spec.{tripleOf}
 use denote.Triple.Table.{entered, cited}
-use Rattle.abif.proofs.text.Text as S
-use Rattle.abif.proofs.text.Text.Laws as S′
+use Rattle.abif_elements.proofs.text.Text as S
+use Rattle.abif_elements.proofs.text.Text.Laws as S′
 use Rattle.abif_file.proofs.file.read_text as step
 use Rattle.abif_file.proofs.file.read_text.Symbol as step-def
 use Rattle.abif_file.proofs.file.read_text.Met as step-thm

@@ -1,14 +1,14 @@
 //! Directories of about the most entries that there may be, with a fault.
 
-use super::generate::long_directory;
 use super::Abif;
+use crate::format::Files;
 use crate::groups::damaged::compare_changed;
 use crate::random::Random;
 use crate::report::Group;
 
 /// The counts 999 and 1000 are only judged to the end where the directory is that long.
 pub fn counts(group: &mut Group) {
-    let full = long_directory(&mut Random::new(21), 999);
+    let full = Abif::long_file(&mut Random::new(21), 999);
     for count in [998, 999, 1000, 1001] {
         let mut draft = full.clone();
         draft.header.count = count;

@@ -3,6 +3,9 @@
 use super::draft::{Draft, Record};
 use super::generate::{self, element_size, Content, Order};
 use super::reader::Tag;
+use super::Abif;
+use crate::damage::each_value;
+use crate::format::Damage;
 use crate::random::Random;
 
 #[derive(Clone, Copy, Debug)]
@@ -27,9 +30,32 @@ pub enum Change {
     Length(usize),
 }
 
-impl Change {
-    pub fn apply(self, draft: &mut Draft) {
-        match self {
+impl Damage for Abif {
+    type Change = Change;
+
+    fn bases() -> Vec<Draft> {
+        let shorts = Content::listed(4, vec![0, 1, 0xFF, 0xFE, 0x80, 0, 0x7F, 0xFF]);
+        let inline = Content::listed(4, vec![0, 1, 0xFF, 0xFE]);
+        let text = Content::listed(18, b"\x06sample".to_vec());
+        let closed = Content::listed(19, b"closed text\0".to_vec());
+        let reals = Content::listed(8, generate::real_patterns()[..24].to_vec());
+        let thumb = Content::listed(12, (1..=10).collect());
+        let long = Content::listed(5, vec![0x80, 0, 0, 1]);
+        let raw = Content::raw(1024, 7, 3, (0..9).collect());
+        let date = Content::listed(10, vec![7, 214, 7, 31, 7, 214, 13, 1]);
+        vec![
+            file(vec![], Order::DirectoryFirst),
+            file(vec![inline.clone()], Order::DirectoryFirst),
+            file(vec![shorts.clone()], Order::DirectoryFirst),
+            file(vec![text, shorts.clone()], Order::DirectoryLast),
+            file(vec![reals, inline, thumb], Order::DirectoryBetween),
+            file(vec![raw, long, closed], Order::DirectoryFirst),
+            file(vec![date, shorts], Order::DirectoryLast),
+        ]
+    }
+
+    fn apply(change: Change, draft: &mut Draft) {
+        match change {
             Change::Mark(mark) => draft.mark = mark,
             Change::Version(version) => draft.version = version,
             Change::Header(field, value) => set(&mut draft.header, field, value),
@@ -41,6 +67,57 @@ impl Change {
             Change::SameTag(index, other) => draft.entries[index].tag = draft.entries[other].tag,
             Change::Length(length) => draft.body.resize(length, 0),
         }
+    }
+
+    fn all_changes(draft: &Draft) -> Vec<Change> {
+        let mut changes = header_changes(draft);
+        for index in 0..draft.entries.len() {
+            changes.extend(entry_changes(draft, index));
+        }
+        changes.extend(length_changes(draft));
+        changes
+    }
+
+    fn certain_faults(draft: &Draft) -> Vec<Change> {
+        let mut faults = vec![
+            Change::Length(127),
+            Change::Mark(*b"ABIE"),
+            Change::Version(99),
+            Change::Version(200),
+            Change::Header(Field::Name, 0),
+            Change::Header(Field::Number, 2),
+            Change::Header(Field::TypeCode, 1024),
+            Change::Header(Field::ElementSize, 27),
+            Change::Header(Field::Count, -1),
+            Change::Header(Field::Count, 999),
+            Change::Header(Field::Count, 1000),
+            Change::Header(Field::DataSize, -1),
+            Change::Header(Field::DataSize, i32::MAX),
+            Change::Header(Field::Offset, 127),
+            Change::Header(Field::Offset, -1),
+            Change::Header(Field::Offset, i32::MAX),
+            Change::Length(draft.place + 28 * draft.entries.len() - 1),
+            Change::Length(draft.body.len() - 1),
+        ];
+        for index in 0..draft.entries.len() {
+            faults.extend(certain_entry_faults(draft, index));
+        }
+        faults
+    }
+
+    // Random bytes behind the mark, behind the version or behind a sound header.
+    fn random_tail(random: &mut Random) -> Vec<u8> {
+        let length = random.between(120, 400);
+        let mut bytes = random.bytes(length);
+        let count = random.below(length / 28 + 1);
+        let mut draft = Draft::new(128, Vec::new(), Vec::new());
+        draft.header.count = count as i32;
+        draft.header.data_size = 28 * count as i32;
+        let header = draft.header.bytes();
+        let sound = [b"ABIF", &[0, 101][..], &header].concat();
+        let kept = random.pick(&[4, 6, 14, 18, 26, 30, 34, 34, 34, 34]);
+        bytes[..kept].copy_from_slice(&sound[..kept]);
+        bytes
     }
 }
 
@@ -54,16 +131,6 @@ fn set(record: &mut Record, field: Field, value: i32) {
         Field::DataSize => record.data_size = value,
         Field::Offset => record.set_offset(value),
     }
-}
-
-/// Every single change of the header, of every entry and of the length, at and around each bound.
-pub fn all_changes(draft: &Draft) -> Vec<Change> {
-    let mut changes = header_changes(draft);
-    for index in 0..draft.entries.len() {
-        changes.extend(entry_changes(draft, index));
-    }
-    changes.extend(length_changes(draft));
-    changes
 }
 
 fn header_changes(draft: &Draft) -> Vec<Change> {
@@ -85,9 +152,7 @@ fn header_changes(draft: &Draft) -> Vec<Change> {
         (Field::DataSize, directory_size_bounds(draft)),
         (Field::Offset, directory_offset_bounds(draft)),
     ];
-    for (field, values) in fields {
-        changes.extend(values.into_iter().map(|value| Change::Header(field, value)));
-    }
+    changes.extend(each_value(fields, Change::Header));
     changes
 }
 
@@ -125,11 +190,9 @@ fn entry_changes(draft: &Draft, index: usize) -> Vec<Change> {
         (Field::Number, vec![0, -1, i32::MIN]),
     ];
     let mut changes = size_changes(entry, index);
-    for (field, values) in fields {
-        for value in values {
-            changes.push(Change::Entry(index, field, value));
-        }
-    }
+    changes.extend(each_value(fields, |field, value| {
+        Change::Entry(index, field, value)
+    }));
     let others = (0..draft.entries.len()).filter(|&other| other != index);
     changes.extend(others.map(|other| Change::SameTag(index, other)));
     changes
@@ -200,34 +263,6 @@ fn length_changes(draft: &Draft) -> Vec<Change> {
     lengths.into_iter().map(Change::Length).collect()
 }
 
-/// One change for each rule, which surely breaks it; pairs of these show the order of checks.
-pub fn certain_faults(draft: &Draft) -> Vec<Change> {
-    let mut faults = vec![
-        Change::Length(127),
-        Change::Mark(*b"ABIE"),
-        Change::Version(99),
-        Change::Version(200),
-        Change::Header(Field::Name, 0),
-        Change::Header(Field::Number, 2),
-        Change::Header(Field::TypeCode, 1024),
-        Change::Header(Field::ElementSize, 27),
-        Change::Header(Field::Count, -1),
-        Change::Header(Field::Count, 999),
-        Change::Header(Field::Count, 1000),
-        Change::Header(Field::DataSize, -1),
-        Change::Header(Field::DataSize, i32::MAX),
-        Change::Header(Field::Offset, 127),
-        Change::Header(Field::Offset, -1),
-        Change::Header(Field::Offset, i32::MAX),
-        Change::Length(draft.place + 28 * draft.entries.len() - 1),
-        Change::Length(draft.body.len() - 1),
-    ];
-    for index in 0..draft.entries.len() {
-        faults.extend(certain_entry_faults(draft, index));
-    }
-    faults
-}
-
 fn certain_entry_faults(draft: &Draft, index: usize) -> Vec<Change> {
     let mut faults = vec![
         Change::Entry(index, Field::TypeCode, 0),
@@ -244,47 +279,10 @@ fn certain_entry_faults(draft: &Draft, index: usize) -> Vec<Change> {
     faults
 }
 
-/// Small whole files of different shapes that the changes are made to.
-pub fn bases() -> Vec<Draft> {
-    let shorts = Content::listed(4, vec![0, 1, 0xFF, 0xFE, 0x80, 0, 0x7F, 0xFF]);
-    let inline = Content::listed(4, vec![0, 1, 0xFF, 0xFE]);
-    let text = Content::listed(18, b"\x06sample".to_vec());
-    let closed = Content::listed(19, b"closed text\0".to_vec());
-    let reals = Content::listed(8, generate::real_patterns()[..24].to_vec());
-    let thumb = Content::listed(12, (1..=10).collect());
-    let long = Content::listed(5, vec![0x80, 0, 0, 1]);
-    let raw = Content::raw(1024, 7, 3, (0..9).collect());
-    let date = Content::listed(10, vec![7, 214, 7, 31, 7, 214, 13, 1]);
-    vec![
-        file(vec![], Order::DirectoryFirst),
-        file(vec![inline.clone()], Order::DirectoryFirst),
-        file(vec![shorts.clone()], Order::DirectoryFirst),
-        file(vec![text, shorts.clone()], Order::DirectoryLast),
-        file(vec![reals, inline, thumb], Order::DirectoryBetween),
-        file(vec![raw, long, closed], Order::DirectoryFirst),
-        file(vec![date, shorts], Order::DirectoryLast),
-    ]
-}
-
 fn file(contents: Vec<Content>, order: Order) -> Draft {
     let numbered = contents.into_iter().zip(1..);
     let items: Vec<(Tag, Content)> = numbered
         .map(|(content, number)| (Tag::new(b"ABCD", number), content))
         .collect();
     generate::plain_file(&items, order)
-}
-
-/// Random bytes behind the mark, behind the version or behind a sound header.
-pub fn random_tail(random: &mut Random) -> Vec<u8> {
-    let length = random.between(120, 400);
-    let mut bytes = random.bytes(length);
-    let count = random.below(length / 28 + 1);
-    let mut draft = Draft::new(128, Vec::new(), Vec::new());
-    draft.header.count = count as i32;
-    draft.header.data_size = 28 * count as i32;
-    let header = draft.header.bytes();
-    let sound = [b"ABIF", &[0, 101][..], &header].concat();
-    let kept = random.pick(&[4, 6, 14, 18, 26, 30, 34, 34, 34, 34]);
-    bytes[..kept].copy_from_slice(&sound[..kept]);
-    bytes
 }

@@ -1,6 +1,9 @@
 //! A file before it is written out, with every field open to change.
 
 use super::reader::Tag;
+use crate::answers::Verdict;
+use crate::draft::write_over;
+use crate::format;
 use std::ops::Range;
 
 pub const LEGACY_CODES: [i16; 10] = [6, 9, 14, 15, 16, 17, 20, 128, 256, 384];
@@ -90,14 +93,6 @@ impl Draft {
         out
     }
 
-    /// Where the header's fields and the entries stand.
-    pub fn fields(&self) -> Vec<Range<usize>> {
-        let entries = (0..self.entries.len()).map(|index| self.place + 28 * index);
-        let mut fields: Vec<Range<usize>> = entries.map(|place| place..place + 28).collect();
-        fields.push(0..34);
-        fields
-    }
-
     pub fn tags(&self) -> Vec<Tag> {
         self.entries.iter().map(|entry| entry.tag).collect()
     }
@@ -114,9 +109,19 @@ impl Draft {
     }
 }
 
-// Writes as much as lies inside the file.
-fn write_over(out: &mut [u8], at: usize, part: &[u8]) {
-    for (slot, byte) in out.iter_mut().skip(at).zip(part) {
-        *slot = *byte;
+impl format::Draft for Draft {
+    fn bytes(&self) -> Vec<u8> {
+        Draft::bytes(self)
+    }
+
+    fn verdict(&self) -> Verdict {
+        Verdict::whole(self.extent() as u64)
+    }
+
+    fn fields(&self) -> Vec<Range<usize>> {
+        let entries = (0..self.entries.len()).map(|index| self.place + 28 * index);
+        let mut fields: Vec<Range<usize>> = entries.map(|place| place..place + 28).collect();
+        fields.push(0..34);
+        fields
     }
 }

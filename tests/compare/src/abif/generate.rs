@@ -2,7 +2,9 @@
 
 use super::draft::{Draft, Record, LEGACY_CODES, LISTED_CODES};
 use super::reader::{Tag, Type};
+use super::Abif;
 use crate::floats::SINGLES;
+use crate::format::Files;
 use crate::random::Random;
 
 const REALS: [u64; 16] = [
@@ -147,31 +149,34 @@ pub fn plain_file(items: &[(Tag, Content)], order: Order) -> Draft {
     layout.finish()
 }
 
-/// A whole file of a random shape with about the number of entries that `most` allows.
-pub fn random_file(random: &mut Random, most: usize) -> Draft {
-    let count = entry_count(random, most);
-    let mut items: Vec<(Tag, Content)> = Vec::new();
-    for _ in 0..count {
-        let tag = new_tag(random, &items);
-        items.push((tag, random_content(random)));
-    }
-    let mut draft = random_layout(random, &items);
-    if random.one_in(4) {
-        overlap(random, &mut draft);
-    }
-    loosen(random, &mut draft);
-    draft
-}
+impl Files for Abif {
+    type Draft = Draft;
 
-/// A whole file with this many entries, in which most items are small.
-pub fn long_directory(random: &mut Random, count: usize) -> Draft {
-    let items: Vec<(Tag, Content)> = (0..count)
-        .map(|index| {
-            let tag = Tag::new(b"DATA", index as i32 + 1);
-            (tag, random_content(random))
-        })
-        .collect();
-    plain_file(&items, random.pick(&ORDERS))
+    fn random_file(random: &mut Random, most: usize) -> Draft {
+        let count = entry_count(random, most);
+        let mut items: Vec<(Tag, Content)> = Vec::new();
+        for _ in 0..count {
+            let tag = new_tag(random, &items);
+            items.push((tag, random_content(random)));
+        }
+        let mut draft = random_layout(random, &items);
+        if random.one_in(4) {
+            overlap(random, &mut draft);
+        }
+        loosen(random, &mut draft);
+        draft
+    }
+
+    // Most items are small.
+    fn long_file(random: &mut Random, count: usize) -> Draft {
+        let items: Vec<(Tag, Content)> = (0..count)
+            .map(|index| {
+                let tag = Tag::new(b"DATA", index as i32 + 1);
+                (tag, random_content(random))
+            })
+            .collect();
+        plain_file(&items, random.pick(&ORDERS))
+    }
 }
 
 fn entry_count(random: &mut Random, most: usize) -> usize {

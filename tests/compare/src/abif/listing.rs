@@ -2,11 +2,11 @@
 
 use super::calls::Call;
 use super::draft::{Draft, Record};
-use super::generate::random_file;
 use super::questions::{stated, Answer, Question};
 use super::reader::{Entry, Tag};
+use super::Abif;
 use crate::answers::{Listed, Untouched};
-use crate::format::Question as _;
+use crate::format::{Files, Question as _};
 use crate::random::Random;
 use crate::report::Group;
 
@@ -19,7 +19,7 @@ const ENTRIES_OF_A_LONG_FILE: usize = 999;
 pub fn rooms(group: &mut Group) {
     let mut random = Random::new(16);
     for _ in 0..FILES {
-        let mut draft = random_file(&mut random, MOST_ENTRIES);
+        let mut draft = Abif::random_file(&mut random, MOST_ENTRIES);
         in_every_room(group, &draft);
         for entry in &mut draft.entries {
             *entry = random_record(&mut random);

@@ -1,10 +1,10 @@
 //! Opened files: every call with the right place and count, and with wrong ones.
 
-use super::generate::long_directory;
 use super::questions::{asked_tags, calls, stated, wrong_ones};
 use super::reader::{Carried, Tag};
-use super::{damage, library, Abif};
+use super::{library, Abif};
 use crate::damage::random_changes;
+use crate::format::{Answer, Damage, Files};
 use crate::random::Random;
 use crate::report::Group;
 use crate::tally::Tally;
@@ -19,8 +19,8 @@ const LEAST_OF_EACH: u64 = 100;
 pub fn files(group: &mut Group) {
     let mut random = Random::new(18);
     let mut tally = Tally::default();
-    let mut drafts = damage::bases();
-    drafts.push(long_directory(&mut random, 999));
+    let mut drafts = Abif::bases();
+    drafts.push(Abif::long_file(&mut random, 999));
     drafts.extend((0..FILES).map(|_| random_changes::<Abif>(&mut random)));
     for draft in drafts {
         opened(group, &draft.bytes(), &draft.tags(), &mut tally);

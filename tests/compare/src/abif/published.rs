@@ -4,10 +4,9 @@ use super::answers::{Element, Opened, Part};
 use super::calls::Call;
 use super::questions::{Answer, Question};
 use super::reader::{Carried, Entry, Tag};
-use super::samples;
-use crate::answers::{Found, Listed, Verdict, Written};
-use crate::groups::expect;
-use crate::program;
+use super::{samples, Abif};
+use crate::answers::{Found, Verdict, Written};
+use crate::groups::published::{expect, expect_lines, expect_verdict};
 use crate::report::Group;
 
 const ABCD_1: Tag = Tag::new(b"ABCD", 1);
@@ -32,14 +31,6 @@ pub fn samples(group: &mut Group) {
     three_shorts(group);
     month_thirteen(group);
     program_lines(group);
-}
-
-fn whole(extent: u64) -> Answer {
-    Answer::Verdict(Verdict::whole(extent))
-}
-
-fn refused(refusal: u64, entry: u64) -> Answer {
-    Answer::Verdict(Verdict::refused(refusal, entry))
 }
 
 fn not_found(refusal: u64) -> Answer {
@@ -75,7 +66,7 @@ fn no_bytes(group: &mut Group) {
         refusal: 1,
         ..Part::default()
     };
-    expect(group, &[], Question::Judge, refused(1, 0));
+    expect_verdict::<Abif>(group, &[], Verdict::refused(1, 0));
     expect(group, &[], Question::Open, Answer::Opened(opened));
     expect(group, &[], lookup(ABCD_1), not_found(1));
     expect(group, &[], element(ABCD_1, 1), no_element(1));
@@ -96,13 +87,13 @@ fn one_inline_item(group: &mut Group) {
         count: 1,
     };
     let second = Answer::Element(Element::whole(1, -2));
-    expect(group, &file, Question::Judge, whole(156));
+    expect_verdict::<Abif>(group, &file, Verdict::whole(156));
     expect(group, &file, Question::Open, Answer::Opened(opened));
     expect(group, &file, lookup(ABCD_1), Answer::Found(TWO_SHORTS));
     expect(group, &file, element(ABCD_1, 2), second);
     expect(group, &file, element(ABCD_1, 3), no_element(12));
     expect(group, &file, lookup(ABCD_2), not_found(7));
-    expect(group, &file[..155], Question::Judge, refused(1, 0));
+    expect_verdict::<Abif>(group, &file[..155], Verdict::refused(1, 0));
     for (first, room, right) in [(1, 1, &[1][..]), (1, 2, &[1, -2]), (2, 3, &[-2])] {
         numbers(group, &file, (first, room), right);
     }
@@ -119,14 +110,7 @@ fn whole_numbers(first: u64, room: usize) -> Question {
 
 // From a number on, in this room: these numbers and nothing behind them.
 fn numbers(group: &mut Group, file: &[u8], (first, room): (u64, usize), right: &[i64]) {
-    let written = Written::by(room, |out: &mut [i64]| {
-        out[..right.len()].copy_from_slice(right);
-        Listed {
-            refusal: 0,
-            count: right.len() as u64,
-        }
-    });
-    let answer = Answer::Numbers(written);
+    let answer = Answer::Numbers(Written::holding(room, right, right.len()));
     expect(group, file, whole_numbers(first, room), answer);
 }
 
@@ -145,13 +129,7 @@ fn listed_item(group: &mut Group) {
     };
     let call = Call::List { room: 2 };
     let full = Call::List { room: 0 };
-    let listed = Answer::Entries(Written::by(2, |out: &mut [Entry]| {
-        out[0] = entry;
-        Listed {
-            refusal: 0,
-            count: 1,
-        }
-    }));
+    let listed = Answer::Entries(Written::holding(2, &[entry], 1));
     for asked in [Question::Plain, |call| Question::Opened(OPENED, call)] {
         expect(group, &file, asked(call), listed.clone());
         expect(group, &file, asked(full), full.refused(13));
@@ -197,20 +175,19 @@ fn opened_item(group: &mut Group) {
 fn three_shorts(group: &mut Group) {
     group.input();
     let file = samples::one_item_at_an_offset();
-    expect(group, &file, Question::Judge, whole(162));
-    expect(group, &file[..161], Question::Judge, refused(1, 1));
+    expect_verdict::<Abif>(group, &file, Verdict::whole(162));
+    expect_verdict::<Abif>(group, &file[..161], Verdict::refused(1, 1));
 }
 
 fn month_thirteen(group: &mut Group) {
     group.input();
     let file = samples::month_thirteen();
-    expect(group, &file, Question::Judge, whole(156));
+    expect_verdict::<Abif>(group, &file, Verdict::whole(156));
     expect(group, &file, element(ABCD_1, 1), no_element(11));
 }
 
 fn program_lines(group: &mut Group) {
     let file = samples::one_inline_item();
     let printed = "ABIF whole 156 of 156\nABCD 1 type 4 count 2 size 4 inline\n";
-    let lines = program::lines(&file);
-    group.check(lines == printed, &file, || format!("reader {lines:?}"));
+    expect_lines(group, &file, printed);
 }

@@ -2,16 +2,19 @@
 
 use super::answers::{Element, Opened, Part};
 use super::calls::Call;
+use super::draft::Draft;
 use super::library;
 use super::reader::{self, Carried, Entry, Tag};
-use crate::answers::{Found, Verdict, Written};
-use crate::arguments::{bulk_rooms, numbers_around, rooms, sample, PAST_16_BITS, PAST_32_BITS};
+use super::Abif;
+use crate::answers::{Found, Written};
+use crate::arguments::{
+    bulk_rooms_from, numbers_around, rooms, sample, PAST_16_BITS, PAST_32_BITS,
+};
 use crate::big_endian::u32_at;
-use crate::format;
+use crate::format::{self, Calls};
 
 #[derive(Clone, Copy, Debug)]
 pub enum Question {
-    Judge,
     Open,
     Plain(Call),
     /// The call for an opened file, which carries its directory's place and count.
@@ -25,7 +28,6 @@ pub enum Question {
 
 #[derive(Clone, Debug, PartialEq)]
 pub enum Answer {
-    Verdict(Verdict),
     Opened(Opened),
     Found(Found),
     Element(Element),
@@ -35,26 +37,8 @@ pub enum Answer {
 }
 
 impl format::Answer for Answer {
-    fn verdict(&self) -> Option<Verdict> {
+    fn refusal(&self) -> u64 {
         match self {
-            Answer::Verdict(verdict) => Some(*verdict),
-            _ => None,
-        }
-    }
-
-    fn is_cut_short(&self) -> bool {
-        match self {
-            Answer::Entries(written) => written.is_cut_short(),
-            Answer::Numbers(written) => written.is_cut_short(),
-            _ => self.refusal() == 1,
-        }
-    }
-}
-
-impl Answer {
-    pub fn refusal(&self) -> u64 {
-        match self {
-            Answer::Verdict(verdict) => verdict.refusal,
             Answer::Opened(opened) => opened.refusal,
             Answer::Found(found) => found.refusal,
             Answer::Element(element) => element.refusal,
@@ -63,15 +47,21 @@ impl Answer {
             Answer::Numbers(written) => written.listed.refusal,
         }
     }
+
+    fn is_untouched(&self) -> bool {
+        match self {
+            Answer::Entries(written) => written.is_untouched(),
+            Answer::Numbers(written) => written.is_untouched(),
+            _ => true,
+        }
+    }
 }
 
 impl format::Question for Question {
     type Answer = Answer;
-    const JUDGE: Question = Question::Judge;
 
     fn ask_library(&self, bytes: &[u8]) -> Answer {
         match *self {
-            Question::Judge => Answer::Verdict(library::judge(bytes)),
             Question::Open => Answer::Opened(library::open(bytes)),
             Question::Plain(call) => call.ask_library(bytes),
             Question::Opened(carried, call) => call.ask_library_opened(bytes, carried),
@@ -84,7 +74,6 @@ impl format::Question for Question {
 
     fn ask_reader(&self, bytes: &[u8]) -> Answer {
         match *self {
-            Question::Judge => Answer::Verdict(reader::judge(bytes).into()),
             Question::Open => Answer::Opened(reader::open(bytes).into()),
             Question::Plain(call) => call.ask_reader(bytes),
             Question::Opened(carried, call) => call.ask_reader_opened(bytes, carried),
@@ -96,23 +85,27 @@ impl format::Question for Question {
     }
 }
 
-/// Every call on the file: for its tags, for the tags in `more`, and for tags it does not have; of
-/// the opened file with the right place and count and with wrong ones in turn.
-pub fn questions(bytes: &[u8], more: &[Tag]) -> Vec<Question> {
-    let tags = asked_tags(bytes, more);
-    let right = stated(bytes);
-    let wrong = wrong_ones(right).into_iter();
-    let carried: Vec<Carried> = wrong.flat_map(|wrong| [right, wrong]).collect();
-    let turns = carried.iter().cycle().skip(bytes.len() % carried.len());
-    let mut list = vec![Question::Judge, Question::Open];
-    for (call, &carried) in calls(bytes, &tags).into_iter().zip(turns) {
-        list.push(Question::Plain(call));
-        list.push(Question::Opened(carried, call));
+impl Calls for Abif {
+    type Question = Question;
+
+    // For the tags of the file and of the draft, and for tags that are in neither; of the opened
+    // file with the right place and count and with wrong ones in turn.
+    fn questions(bytes: &[u8], draft: Option<&Draft>) -> Vec<Question> {
+        let tags = asked_tags(bytes, &draft.map_or(Vec::new(), Draft::tags));
+        let right = stated(bytes);
+        let wrong = wrong_ones(right).into_iter();
+        let carried: Vec<Carried> = wrong.flat_map(|wrong| [right, wrong]).collect();
+        let turns = carried.iter().cycle().skip(bytes.len() % carried.len());
+        let mut list = vec![Question::Open];
+        for (call, &carried) in calls(bytes, &tags).into_iter().zip(turns) {
+            list.push(Question::Plain(call));
+            list.push(Question::Opened(carried, call));
+        }
+        for tag in tags {
+            whole_number_questions(tag, count_of(bytes, tag), bytes.len(), &mut list);
+        }
+        list
     }
-    for tag in tags {
-        whole_number_questions(tag, count_of(bytes, tag), bytes.len(), &mut list);
-    }
-    list
 }
 
 /// A selection of the file's tags and of those in `more`, and tags that are in neither.
@@ -220,8 +213,7 @@ fn count_of(bytes: &[u8], tag: Tag) -> u64 {
 
 fn whole_number_questions(tag: Tag, count: u64, length: usize, list: &mut Vec<Question>) {
     for first in numbers_around(count) {
-        let left = (count + 1).saturating_sub(first.max(1));
-        for room in bulk_rooms(left.min(length as u64) as usize, 1) {
+        for room in bulk_rooms_from(first, count, length, 1) {
             list.push(Question::WholeNumbers { tag, first, room });
         }
     }

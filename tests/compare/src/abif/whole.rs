@@ -1,11 +1,12 @@
 //! Files without a fault, made for one thing each.
 
 use super::generate::{
-    all_codes, element_size, listed_data, long_directory, plain_file, real_patterns,
-    single_patterns, Content, Order, ORDERS,
+    all_codes, element_size, listed_data, plain_file, real_patterns, single_patterns, Content,
+    Order, ORDERS,
 };
 use super::reader::{Tag, Type};
 use super::Abif;
+use crate::format::Files;
 use crate::groups::whole::compare_whole;
 use crate::random::Random;
 use crate::report::Group;
@@ -143,7 +144,7 @@ fn closed_text(length: usize, zeros: &[usize]) -> Vec<u8> {
 pub fn long_directories(group: &mut Group) {
     let mut random = Random::new(13);
     for count in [11, 12, 50, 130, 255, 256, 257, 500, 998, 999, 999, 999] {
-        compare_whole::<Abif>(group, &long_directory(&mut random, count));
+        compare_whole::<Abif>(group, &Abif::long_file(&mut random, count));
     }
 }
 

@@ -1,9 +1,12 @@
 //! Every beginning of many small files, in any format.
 
-use crate::damage::{random_byte_changes, random_changes};
-use crate::format::{Answer, Format, Question};
+use super::Judging;
+use crate::answers::Verdict;
+use crate::damage::{changed, random_byte_changes, random_changes};
+use crate::format::{Answer, Draft, Files, Format, Question};
 use crate::random::Random;
 use crate::report::Group;
+use std::fmt::Debug;
 
 const LONGEST: usize = 700;
 const RANDOM_WHOLE: usize = 300;
@@ -14,14 +17,14 @@ const ENTRIES_OF_A_LONGER_FILE: usize = 40;
 
 pub fn every_cut<F: Format>(group: &mut Group) {
     for (file, draft) in files::<F>() {
-        cut_file(group, &file, &F::questions(&file, draft.as_ref()));
+        cut_file::<F>(group, &file, &F::questions(&file, draft.as_ref()));
     }
 }
 
-type File<F> = (Vec<u8>, Option<<F as Format>::Draft>);
+type File<F> = (Vec<u8>, Option<<F as Files>::Draft>);
 
 fn drafted<F: Format>(draft: F::Draft) -> File<F> {
-    (F::bytes(&draft), Some(draft))
+    (draft.bytes(), Some(draft))
 }
 
 fn files<F: Format>() -> Vec<File<F>> {
@@ -29,9 +32,7 @@ fn files<F: Format>() -> Vec<File<F>> {
     let mut files = Vec::new();
     for base in F::bases() {
         for fault in F::certain_faults(&base) {
-            let mut draft = base.clone();
-            F::apply(fault, &mut draft);
-            files.push(drafted::<F>(draft));
+            files.push(drafted::<F>(changed::<F>(&base, &[fault])));
         }
         files.push(drafted::<F>(base));
     }
@@ -59,39 +60,67 @@ fn files<F: Format>() -> Vec<File<F>> {
 }
 
 // Asks every call on every beginning, each in a buffer of exactly its own length.
-fn cut_file<Q: Question>(group: &mut Group, file: &[u8], asked: &[Q]) {
-    let extent = extent_of::<Q>(file);
-    let on_the_file: Vec<Q::Answer> = asked
-        .iter()
-        .map(|question| question.ask_library(file))
-        .collect();
+fn cut_file<F: Format>(group: &mut Group, file: &[u8], asked: &[F::Question]) {
+    let judged = F::library_verdict(file);
+    let extent = (judged.refusal == 0).then_some(judged.extent as usize);
+    let asked_of_the_file = asked.iter().map(|question| question.ask_library(file));
+    let on_the_file: Vec<_> = asked_of_the_file.collect();
     for length in 0..=file.len() {
         group.input();
-        let cut = file[..length].to_vec().into_boxed_slice();
+        let bytes = file[..length].to_vec().into_boxed_slice();
+        let cut = Cut {
+            file,
+            length,
+            has_extent: extent.map(|extent| length >= extent),
+        };
+        let verdicts = [F::library_verdict(&bytes), F::reader_verdict(&bytes)];
+        let is_due = cut.is_due_of_judging(&verdicts[0], &judged);
+        cut.check(group, &Judging, verdicts, &judged, is_due);
         for (question, full) in asked.iter().zip(&on_the_file) {
-            let answer = question.ask_library(&cut);
-            let expected = question.ask_reader(&cut);
-            group.check(answer == expected, file, || {
-                format!("cut to {length}: {question:?}: library {answer:?}, reader {expected:?}")
-            });
-            group.check(is_due(&answer, full, length, extent), file, || {
-                format!("cut to {length}: {question:?}: {answer:?}, on the full file {full:?}")
-            });
+            let answers = [question.ask_library(&bytes), question.ask_reader(&bytes)];
+            let is_due = cut.is_due(&answers[0], full);
+            cut.check(group, question, answers, full, is_due);
         }
     }
 }
 
-fn extent_of<Q: Question>(file: &[u8]) -> Option<usize> {
-    let verdict = Q::JUDGE.ask_library(file).verdict()?;
-    (verdict.refusal == 0).then_some(verdict.extent as usize)
+/// A beginning of a file.
+struct Cut<'a> {
+    file: &'a [u8],
+    length: usize,
+    /// Whether it is as long as the extent, where the full file is whole.
+    has_extent: Option<bool>,
 }
 
-// A cut answers as the full file or that it is cut short, from a whole file's extent on as the full
-// file; judging must find the same extent in every longer cut, and none below.
-fn is_due<A: Answer>(answer: &A, full: &A, length: usize, extent: Option<usize>) -> bool {
-    match (extent, answer.verdict()) {
-        (Some(extent), _) if length >= extent => answer == full,
-        (Some(_), Some(_)) => answer.is_cut_short(),
-        _ => answer == full || answer.is_cut_short(),
+impl Cut<'_> {
+    // A cut answers as the full file or that it is cut short, from a whole file's extent on as the
+    // full file.
+    fn is_due<A: Answer>(&self, answer: &A, full: &A) -> bool {
+        answer == full || (self.has_extent != Some(true) && answer.is_cut_short())
+    }
+
+    // Judging must find the same extent in every longer cut, and none below.
+    fn is_due_of_judging(&self, verdict: &Verdict, full: &Verdict) -> bool {
+        match self.has_extent {
+            Some(false) => verdict.is_cut_short(),
+            _ => self.is_due(verdict, full),
+        }
+    }
+
+    fn check<A: Answer>(
+        &self,
+        group: &mut Group,
+        call: &dyn Debug,
+        [library, reader]: [A; 2],
+        full: &A,
+        is_due: bool,
+    ) {
+        let length = self.length;
+        group.check(library == reader, self.file, || {
+            format!("cut to {length}: {call:?}: library {library:?}, reader {reader:?}")
+        });
+        group.check(is_due, self.file, || {
+            format!("cut to {length}: {call:?}: {library:?}, on the full file {full:?}")
+        });
     }
 }

@@ -1,8 +1,8 @@
 //! Files with faults, in any format.
 
 use super::compare_file;
-use crate::damage::{random_byte_changes, random_changes};
-use crate::format::Format;
+use crate::damage::{changed, random_byte_changes, random_changes};
+use crate::format::{Draft, Format};
 use crate::random::Random;
 use crate::report::Group;
 
@@ -12,15 +12,13 @@ const RANDOM_FILES: usize = 4000;
 const LONGEST_SHORT_FILE: usize = 160;
 
 pub fn compare_changed<F: Format>(group: &mut Group, changed: &F::Draft) {
-    compare_file::<F>(group, &F::bytes(changed), Some(changed));
+    compare_file::<F>(group, &changed.bytes(), Some(changed));
 }
 
 pub fn single_changes<F: Format>(group: &mut Group) {
     for base in F::bases() {
         for change in F::all_changes(&base) {
-            let mut draft = base.clone();
-            F::apply(change, &mut draft);
-            compare_changed::<F>(group, &draft);
+            compare_changed::<F>(group, &changed::<F>(&base, &[change]));
         }
     }
 }
@@ -28,12 +26,9 @@ pub fn single_changes<F: Format>(group: &mut Group) {
 pub fn pairs<F: Format>(group: &mut Group) {
     for base in F::bases() {
         let faults = F::certain_faults(&base);
-        for (index, first) in faults.iter().enumerate() {
-            for second in &faults[index + 1..] {
-                let mut draft = base.clone();
-                F::apply(*first, &mut draft);
-                F::apply(*second, &mut draft);
-                compare_changed::<F>(group, &draft);
+        for (index, &first) in faults.iter().enumerate() {
+            for &second in &faults[index + 1..] {
+                compare_changed::<F>(group, &changed::<F>(&base, &[first, second]));
             }
         }
     }

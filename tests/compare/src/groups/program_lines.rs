@@ -2,13 +2,13 @@
 
 use crate::abif::{self, Abif};
 use crate::damage::{random_byte_changes, random_changes};
-use crate::format::Format;
-use crate::gtc::{self, Gtc};
+use crate::format::{Draft, Format};
+use crate::gtc::Gtc;
 use crate::program;
 use crate::random::Random;
 use crate::report::Group;
 use crate::samples;
-use crate::sff::{self, Sff};
+use crate::sff::Sff;
 use std::io::{self, Write};
 use std::path::{Path, PathBuf};
 use std::process::{Command, Stdio};
@@ -33,11 +33,7 @@ pub fn lines(group: &mut Group) {
 
 // A read of standard input may hand out less than the whole file.
 fn in_two_pieces(group: &mut Group, program: &Path) {
-    for file in [
-        abif::samples::one_inline_item(),
-        sff::samples::one_read(),
-        gtc::samples::three_snps(),
-    ] {
+    for file in [Abif::sample(), Sff::sample(), Gtc::sample()] {
         for length in [file.len(), LONGEST_INPUT, LONGEST_INPUT + 1] {
             let mut input = file.clone();
             input.resize(length, 0);
@@ -92,10 +88,10 @@ fn generated_inputs() -> Vec<Vec<u8>> {
 
 fn generated_files<F: Format>(most: usize) -> Vec<Vec<u8>> {
     let mut random = Random::new(41);
-    let mut files = vec![F::bytes(&F::long_file(&mut random, most))];
+    let mut files = vec![F::long_file(&mut random, most).bytes()];
     for _ in 0..GENERATED {
-        files.push(F::bytes(&F::random_file(&mut random, 12)));
-        files.push(F::bytes(&random_changes::<F>(&mut random)));
+        files.push(F::random_file(&mut random, 12).bytes());
+        files.push(random_changes::<F>(&mut random).bytes());
         files.push(random_byte_changes::<F>(&mut random));
     }
     files
@@ -105,12 +101,8 @@ fn generated_files<F: Format>(most: usize) -> Vec<Vec<u8>> {
 fn at_the_limit() -> Vec<Vec<u8>> {
     let mut inputs = Vec::new();
     for length in [LONGEST_INPUT - 1, LONGEST_INPUT, LONGEST_INPUT + 1, 200_000] {
-        for file in [
-            abif::samples::one_item_at_an_offset(),
-            sff::samples::one_read(),
-            gtc::samples::three_snps(),
-        ] {
-            let mut whole = file;
+        let offset = abif::samples::one_item_at_an_offset();
+        for mut whole in [offset, Sff::sample(), Gtc::sample()] {
             whole.resize(length, b'x');
             inputs.push(whole);
         }

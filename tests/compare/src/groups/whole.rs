@@ -1,7 +1,7 @@
 //! Files without a fault, in any format.
 
 use super::compare_file;
-use crate::format::Format;
+use crate::format::{Draft, Format};
 use crate::random::Random;
 use crate::report::Group;
 
@@ -10,9 +10,9 @@ const MOST_ENTRIES: usize = 12;
 
 /// Compares every call and sees that the file is judged as it was built to be.
 pub fn compare_whole<F: Format>(group: &mut Group, draft: &F::Draft) {
-    let bytes = F::bytes(draft);
-    let judged = F::judge(&bytes);
-    let built_for = F::built_for(draft);
+    let bytes = draft.bytes();
+    let judged = F::reader_verdict(&bytes);
+    let built_for = draft.verdict();
     group.check(judged == built_for, &bytes, || {
         format!("reader's judgement {judged:?}, built for {built_for:?}")
     });

@@ -5,9 +5,10 @@ use super::draft::{
     is_snp_array, listed_ids, Draft, Entry, NUMBER_OF_SNPS, SCANNER, SNP_ARRAYS, VALUES,
 };
 use super::generate::{
-    long_file, plain_file, random_content, scanner, snp_items, snp_of_code, text, Content, Items,
+    plain_file, random_content, scanner, snp_items, snp_of_code, text, Content, Items,
 };
 use super::Gtc;
+use crate::format::{Damage, Files};
 use crate::groups::compare_file;
 use crate::groups::damaged::compare_changed;
 use crate::random::Random;
@@ -65,7 +66,7 @@ pub fn numbers_of_snps(group: &mut Group) {
         for present in [0, 1, 2, 3, 258] {
             let snps = vec![snp_of_code(1); present];
             let mut draft = plain_file(&snp_items(&snps));
-            Change::Snps(number).apply(&mut draft);
+            Gtc::apply(Change::Snps(number), &mut draft);
             compare_changed::<Gtc>(group, &draft);
         }
     }
@@ -123,7 +124,7 @@ pub fn offsets(group: &mut Group) {
 
 /// Numbers of entries around the most that there may be, and ids twice in a table of the most.
 pub fn entry_counts(group: &mut Group) {
-    let mut full = long_file(&mut Random::new(23), 999);
+    let mut full = Gtc::long_file(&mut Random::new(23), 999);
     full.body.resize(full.body.len() + 12, 0);
     let counts = [
         0,

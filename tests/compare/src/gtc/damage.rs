@@ -1,15 +1,18 @@
 //! Changes that break the rules of the format, or come close to it.
 
 use super::draft::{
-    element_size, is_snp_array, listed_ids, write_over, Draft, Entry, ARRAYS, BASE_CALLS, BLOCKS,
-    GENOTYPES, NUMBER_OF_SNPS, SCANNER, SNP_ARRAYS, TEXTS, TRANSFORMATIONS,
+    element_size, is_snp_array, listed_ids, Draft, Entry, ARRAYS, BASE_CALLS, BLOCKS, GENOTYPES,
+    NUMBER_OF_SNPS, SCANNER, SNP_ARRAYS, TEXTS, TRANSFORMATIONS,
 };
 use super::generate::{
     array, plain_file, scanner, snp_items, snp_of_code, text, transformation, Content, Items,
     UNLISTED,
 };
 use super::reader::{ENTRY_LENGTH, HEADER_LENGTH};
+use super::Gtc;
+use crate::draft::write_over;
 use crate::floats::SINGLES;
+use crate::format::Damage;
 use crate::little_endian::u32_at;
 use crate::random::Random;
 
@@ -32,9 +35,37 @@ pub enum Change {
     Length(usize),
 }
 
-impl Change {
-    pub fn apply(self, draft: &mut Draft) {
-        match self {
+impl Damage for Gtc {
+    type Change = Change;
+
+    fn bases() -> Vec<Draft> {
+        let snps = [13, 45, 0].map(snp_of_code);
+        let records = snp_items(&snps);
+        let mut number_last = records.clone();
+        number_last.rotate_left(1);
+        let mut with_more = snp_items(&snps[..1]);
+        with_more.push((1012, array([0x3F80_0000_u32.to_le_bytes()])));
+        with_more.insert(0, (1013, array([SINGLES[14].to_le_bytes()])));
+        let mut none = snp_items(&[]);
+        none.push((1017, Content::Field(3)));
+        let mut followed = plain_file(&texts());
+        followed.body.extend(b"bytes behind the end");
+        vec![
+            plain_file(&[]),
+            plain_file(&[(NUMBER_OF_SNPS, Content::Field(3))]),
+            plain_file(&records),
+            plain_file(&number_last),
+            plain_file(&with_more),
+            plain_file(&none),
+            followed,
+            plain_file(&blocks()),
+            plain_file(&last_scanner()),
+            shared(records),
+        ]
+    }
+
+    fn apply(change: Change, draft: &mut Draft) {
+        match change {
             Change::Mark(mark) => draft.mark = mark,
             Change::Version(version) => draft.version = version,
             Change::EntryCount(count) => draft.entry_count = count,
@@ -46,6 +77,74 @@ impl Change {
             Change::Byte(place, byte) => write_over(&mut draft.body, place, &[byte]),
             Change::Length(length) => draft.body.resize(length, 0),
         }
+    }
+
+    fn all_changes(draft: &Draft) -> Vec<Change> {
+        let mut changes = header_changes(draft);
+        for (index, entry) in draft.entries.iter().enumerate() {
+            changes.extend(id_changes(draft, index));
+            let offsets = offset_bounds(draft, entry);
+            changes.extend(offsets.into_iter().map(|it| Change::Offset(index, it)));
+        }
+        for (index, entry) in draft.items() {
+            changes.extend(item_changes(draft, index, entry));
+        }
+        for count in [0, 1, 2, 3, 4, 1 << 30, 1 << 31, u32::MAX] {
+            changes.extend([0, 1, 2].map(|more| Change::Snps(u32::wrapping_add(count, more))));
+        }
+        changes.extend(length_changes(draft));
+        changes
+    }
+
+    fn certain_faults(draft: &Draft) -> Vec<Change> {
+        let mut faults = vec![
+            Change::Length(HEADER_LENGTH - 1),
+            Change::Mark(*b"gtb"),
+            Change::Version(4),
+            Change::EntryCount(-1),
+            Change::EntryCount(999),
+            Change::EntryCount(1000),
+            Change::Length(draft.table_end() - 1),
+            Change::Length(draft.body.len() - 1),
+        ];
+        for (index, entry) in draft.entries.iter().enumerate() {
+            faults.extend(certain_entry_faults(draft, index, entry));
+        }
+        faults
+    }
+
+    // A table with mostly listed ids and offsets inside the file, and mostly small numbers behind it.
+    fn random_tail(random: &mut Random) -> Vec<u8> {
+        let count = random.below(12);
+        let lowest = HEADER_LENGTH + ENTRY_LENGTH * count;
+        let length = lowest + random.below(200);
+        let listed = listed_ids();
+        let mut bytes = [b"gtc\x05", &(count as u32).to_le_bytes()[..]].concat();
+        for _ in 0..count {
+            let id = match random.below(8) {
+                0 => random.pick(&UNLISTED),
+                1 | 2 => NUMBER_OF_SNPS,
+                3 | 4 => random.pick(&SNP_ARRAYS).0,
+                5 => random.pick(&ARRAYS).0,
+                _ => random.pick(&listed),
+            };
+            let offset = match random.below(12) {
+                0 => random.next_u64() as u32,
+                1 => random.below(lowest + 1) as u32,
+                _ if id == NUMBER_OF_SNPS => random.below(3) as u32,
+                _ => random.between(lowest, length) as u32,
+            };
+            bytes.extend(id.to_le_bytes());
+            bytes.extend(offset.to_le_bytes());
+        }
+        while bytes.len() < length {
+            let any = random.next_u64() as u8;
+            bytes.push(random.pick(&[0, 0, 0, 0, 0, 0, 0, 0, 1, 2, 3, any]));
+        }
+        let kept = random.pick(&[3, 4, 5, 8, 8, 8, 8, 8, 8, 8, 8, 8]);
+        let other = random.bytes(HEADER_LENGTH - kept);
+        bytes[kept..HEADER_LENGTH].copy_from_slice(&other);
+        bytes
     }
 }
 
@@ -63,24 +162,6 @@ fn set_snps(draft: &mut Draft, count: u32) {
             set_count(draft, index, count);
         }
     }
-}
-
-/// Every single change of the fields and of the length, at and around each bound.
-pub fn all_changes(draft: &Draft) -> Vec<Change> {
-    let mut changes = header_changes(draft);
-    for (index, entry) in draft.entries.iter().enumerate() {
-        changes.extend(id_changes(draft, index));
-        let offsets = offset_bounds(draft, entry);
-        changes.extend(offsets.into_iter().map(|it| Change::Offset(index, it)));
-    }
-    for (index, entry) in draft.items() {
-        changes.extend(item_changes(draft, index, entry));
-    }
-    for count in [0, 1, 2, 3, 4, 1 << 30, 1 << 31, u32::MAX] {
-        changes.extend([0, 1, 2].map(|more| Change::Snps(u32::wrapping_add(count, more))));
-    }
-    changes.extend(length_changes(draft));
-    changes
 }
 
 fn header_changes(draft: &Draft) -> Vec<Change> {
@@ -198,24 +279,6 @@ fn length_changes(draft: &Draft) -> Vec<Change> {
     lengths.into_iter().map(Change::Length).collect()
 }
 
-/// One change for each rule, which surely breaks it; pairs of these show the order of checks.
-pub fn certain_faults(draft: &Draft) -> Vec<Change> {
-    let mut faults = vec![
-        Change::Length(HEADER_LENGTH - 1),
-        Change::Mark(*b"gtb"),
-        Change::Version(4),
-        Change::EntryCount(-1),
-        Change::EntryCount(999),
-        Change::EntryCount(1000),
-        Change::Length(draft.table_end() - 1),
-        Change::Length(draft.body.len() - 1),
-    ];
-    for (index, entry) in draft.entries.iter().enumerate() {
-        faults.extend(certain_entry_faults(draft, index, entry));
-    }
-    faults
-}
-
 fn certain_entry_faults(draft: &Draft, index: usize, entry: &Entry) -> Vec<Change> {
     let mut faults = vec![
         Change::Offset(index, draft.table_end() as u32 - 1),
@@ -238,33 +301,6 @@ fn certain_entry_faults(draft: &Draft, index: usize, entry: &Entry) -> Vec<Chang
         _ => {}
     }
     faults
-}
-
-/// Small whole files of different shapes that the changes are made to.
-pub fn bases() -> Vec<Draft> {
-    let snps = [13, 45, 0].map(snp_of_code);
-    let records = snp_items(&snps);
-    let mut number_last = records.clone();
-    number_last.rotate_left(1);
-    let mut with_more = snp_items(&snps[..1]);
-    with_more.push((1012, array([0x3F80_0000_u32.to_le_bytes()])));
-    with_more.insert(0, (1013, array([SINGLES[14].to_le_bytes()])));
-    let mut none = snp_items(&[]);
-    none.push((1017, Content::Field(3)));
-    let mut followed = plain_file(&texts());
-    followed.body.extend(b"bytes behind the end");
-    vec![
-        plain_file(&[]),
-        plain_file(&[(NUMBER_OF_SNPS, Content::Field(3))]),
-        plain_file(&records),
-        plain_file(&number_last),
-        plain_file(&with_more),
-        plain_file(&none),
-        followed,
-        plain_file(&blocks()),
-        plain_file(&last_scanner()),
-        shared(records),
-    ]
 }
 
 fn texts() -> Items {
@@ -305,38 +341,4 @@ fn shared(mut items: Items) -> Draft {
         draft.entries[index].length = raw_x.length;
     }
     draft
-}
-
-/// A table with mostly listed ids and offsets inside the file, and mostly small numbers behind it.
-pub fn random_tail(random: &mut Random) -> Vec<u8> {
-    let count = random.below(12);
-    let lowest = HEADER_LENGTH + ENTRY_LENGTH * count;
-    let length = lowest + random.below(200);
-    let listed = listed_ids();
-    let mut bytes = [b"gtc\x05", &(count as u32).to_le_bytes()[..]].concat();
-    for _ in 0..count {
-        let id = match random.below(8) {
-            0 => random.pick(&UNLISTED),
-            1 | 2 => NUMBER_OF_SNPS,
-            3 | 4 => random.pick(&SNP_ARRAYS).0,
-            5 => random.pick(&ARRAYS).0,
-            _ => random.pick(&listed),
-        };
-        let offset = match random.below(12) {
-            0 => random.next_u64() as u32,
-            1 => random.below(lowest + 1) as u32,
-            _ if id == NUMBER_OF_SNPS => random.below(3) as u32,
-            _ => random.between(lowest, length) as u32,
-        };
-        bytes.extend(id.to_le_bytes());
-        bytes.extend(offset.to_le_bytes());
-    }
-    while bytes.len() < length {
-        let any = random.next_u64() as u8;
-        bytes.push(random.pick(&[0, 0, 0, 0, 0, 0, 0, 0, 1, 2, 3, any]));
-    }
-    let kept = random.pick(&[3, 4, 5, 8, 8, 8, 8, 8, 8, 8, 8, 8]);
-    let other = random.bytes(HEADER_LENGTH - kept);
-    bytes[kept..HEADER_LENGTH].copy_from_slice(&other);
-    bytes
 }

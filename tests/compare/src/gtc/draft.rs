@@ -2,6 +2,8 @@
 
 use super::reader::{ENTRY_LENGTH, HEADER_LENGTH};
 use crate::answers::Verdict;
+use crate::draft::write_over;
+use crate::format;
 use std::ops::Range;
 
 pub const NUMBER_OF_SNPS: u16 = 1;
@@ -116,8 +118,28 @@ impl Draft {
         entries.filter(|(_, entry)| entry.length > 0 && entry.end() <= self.body.len())
     }
 
-    /// Where the header's fields and the entries stand, and what an item has besides free bytes.
-    pub fn fields(&self) -> Vec<Range<usize>> {
+    pub fn ids(&self) -> Vec<u16> {
+        self.entries.iter().map(|entry| entry.id).collect()
+    }
+}
+
+impl format::Draft for Draft {
+    fn bytes(&self) -> Vec<u8> {
+        Draft::bytes(self)
+    }
+
+    fn verdict(&self) -> Verdict {
+        let ends = self.items().map(|(_, entry)| entry.end());
+        let listed = listed_ids();
+        let unlisted = self.entries.iter().filter(|it| !listed.contains(&it.id));
+        Verdict {
+            unjudged: unlisted.count() as u64,
+            ..Verdict::whole(ends.fold(self.table_end(), usize::max) as u64)
+        }
+    }
+
+    // With what an item has besides free bytes.
+    fn fields(&self) -> Vec<Range<usize>> {
         let mut fields = Vec::new();
         fields.push(0..HEADER_LENGTH);
         for index in 0..self.entries.len() {
@@ -134,27 +156,5 @@ impl Draft {
             fields.push(start..start + length);
         }
         fields
-    }
-
-    pub fn ids(&self) -> Vec<u16> {
-        self.entries.iter().map(|entry| entry.id).collect()
-    }
-
-    /// The judgement that a whole file built from this draft gets.
-    pub fn verdict(&self) -> Verdict {
-        let ends = self.items().map(|(_, entry)| entry.end());
-        let listed = listed_ids();
-        let unlisted = self.entries.iter().filter(|it| !listed.contains(&it.id));
-        Verdict {
-            unjudged: unlisted.count() as u64,
-            ..Verdict::whole(ends.fold(self.table_end(), usize::max) as u64)
-        }
-    }
-}
-
-/// Writes as much as lies inside the file.
-pub fn write_over(bytes: &mut [u8], at: usize, part: &[u8]) {
-    for (slot, byte) in bytes.iter_mut().skip(at).zip(part) {
-        *slot = *byte;
     }
 }

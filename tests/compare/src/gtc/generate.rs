@@ -5,7 +5,9 @@ use super::draft::{
     NUMBER_OF_SNPS, SCANNER, TEXTS, TRANSFORMATIONS,
 };
 use super::reader::{ENTRY_LENGTH, HEADER_LENGTH};
+use super::Gtc;
 use crate::floats::SINGLES;
+use crate::format::Files;
 use crate::little_endian::u32_at;
 use crate::random::Random;
 
@@ -104,43 +106,47 @@ pub fn plain_file(items: &[(u16, Content)]) -> Draft {
     layout.finish()
 }
 
-/// A whole file of a random shape, with about this many entries besides those of SNPs' records.
-pub fn random_file(random: &mut Random, most: usize) -> Draft {
-    let count = snp_count(random);
-    let mut items = Items::new();
-    if !random.one_in(4) {
-        items = snp_items(&random_snps(random, count));
-    }
-    let more = match random.below(40) {
-        0 => 0,
-        1 => listed_ids().len(),
-        2..=30 => random.between(0, most.min(4)),
-        _ => random.between(0, most),
-    };
-    for _ in 0..more {
-        let id = new_id(random, &items);
-        items.push((id, random_content(random, id, count)));
-    }
-    settle_snp_count(random, &mut items, count);
-    random.shuffle(&mut items);
-    let mut draft = random_layout(random, &items);
-    if random.one_in(4) {
-        overlap(random, &mut draft, count);
-    }
-    draft
-}
+impl Files for Gtc {
+    type Draft = Draft;
 
-/// A whole file with this many entries: the listed ids, then others, in any order.
-pub fn long_file(random: &mut Random, count: usize) -> Draft {
-    let snps = random.between(0, 6);
-    let mut ids: Vec<u16> = listed_ids().into_iter().take(count).collect();
-    while ids.len() < count {
-        ids.push(unlisted_id(random));
+    // The entries of SNPs' records come beside those that `most` allows.
+    fn random_file(random: &mut Random, most: usize) -> Draft {
+        let count = snp_count(random);
+        let mut items = Items::new();
+        if !random.one_in(4) {
+            items = snp_items(&random_snps(random, count));
+        }
+        let more = match random.below(40) {
+            0 => 0,
+            1 => listed_ids().len(),
+            2..=30 => random.between(0, most.min(4)),
+            _ => random.between(0, most),
+        };
+        for _ in 0..more {
+            let id = new_id(random, &items);
+            items.push((id, random_content(random, id, count)));
+        }
+        settle_snp_count(random, &mut items, count);
+        random.shuffle(&mut items);
+        let mut draft = random_layout(random, &items);
+        if random.one_in(4) {
+            overlap(random, &mut draft, count);
+        }
+        draft
     }
-    random.shuffle(&mut ids);
-    let contents = ids.iter().map(|&id| (id, random_content(random, id, snps)));
-    let items: Items = contents.collect();
-    random_layout(random, &items)
+
+    // The listed ids, then others, in any order.
+    fn long_file(random: &mut Random, count: usize) -> Draft {
+        let snps = random.between(0, 6);
+        let mut ids: Vec<u16> = listed_ids().into_iter().take(count).collect();
+        while ids.len() < count {
+            ids.push(unlisted_id(random));
+        }
+        random.shuffle(&mut ids);
+        let contents = ids.iter().map(|&id| (id, random_content(random, id, snps)));
+        let items: Items = contents.collect();
+        random_layout(random, &items)
+    }
 }
 
 /// A file like those of the instrument: every listed id, with sound records of so many SNPs.

@@ -4,10 +4,9 @@ use super::answers::{Snp, TransformationAnswer, SNP_NUMBERS};
 use super::draft::{listed_ids, GENOTYPES};
 use super::generate::{plain_file, snp_items, snp_of_code};
 use super::questions::{Answer, Question};
-use super::samples;
-use crate::answers::{Found, Listed, Verdict, Written};
-use crate::groups::expect;
-use crate::program;
+use super::{samples, Gtc};
+use crate::answers::{Found, Verdict, Written};
+use crate::groups::published::{expect, expect_lines, expect_verdict};
 use crate::report::Group;
 
 /// The rows of the published table of genotypes.
@@ -53,14 +52,6 @@ pub fn samples(group: &mut Group) {
     program_lines(group);
 }
 
-fn whole(extent: u64) -> Answer {
-    Answer::Verdict(Verdict::whole(extent))
-}
-
-fn refused(refusal: u64, entry: u64) -> Answer {
-    Answer::Verdict(Verdict::refused(refusal, entry))
-}
-
 fn not_found(refusal: u64) -> Answer {
     Answer::Found(Found::refused(refusal))
 }
@@ -83,19 +74,12 @@ fn no_snps(refusal: u64, room: usize) -> Answer {
 
 // These records at the front of the output, and nothing behind them.
 fn records(right: &[[u64; SNP_NUMBERS]], room: usize) -> Answer {
-    let right = right.concat();
-    Answer::Snps(Written::by(room, |out| {
-        out[..right.len()].copy_from_slice(&right);
-        Listed {
-            refusal: 0,
-            count: (right.len() / SNP_NUMBERS) as u64,
-        }
-    }))
+    Answer::Snps(Written::holding(room, &right.concat(), right.len()))
 }
 
 fn no_bytes(group: &mut Group) {
     group.input();
-    expect(group, &[], Question::Judge, refused(1, 0));
+    expect_verdict::<Gtc>(group, &[], Verdict::refused(1, 0));
     expect(group, &[], Question::Lookup(1), not_found(1));
     expect(group, &[], Question::Lookup(2000), not_found(1));
     expect(group, &[], Question::Snp(1), no_snp(1));
@@ -111,8 +95,8 @@ fn no_bytes(group: &mut Group) {
 fn no_entries(group: &mut Group) {
     group.input();
     let file = samples::no_entries();
-    expect(group, &file, Question::Judge, whole(8));
-    expect(group, &file[..7], Question::Judge, refused(1, 0));
+    expect_verdict::<Gtc>(group, &file, Verdict::whole(8));
+    expect_verdict::<Gtc>(group, &file[..7], Verdict::refused(1, 0));
     expect(group, &file, Question::Lookup(1), not_found(7));
     expect(group, &file, Question::Lookup(4), not_found(10));
     expect(group, &file, Question::Snp(1), no_snp(7));
@@ -135,10 +119,10 @@ fn one_value(group: &mut Group) {
         start: 10,
         length: 4,
     };
-    expect(group, &file, Question::Judge, whole(14));
+    expect_verdict::<Gtc>(group, &file, Verdict::whole(14));
     expect(group, &file, Question::Lookup(1), Answer::Found(found));
     expect(group, &file, Question::Lookup(GENOTYPES), not_found(7));
-    expect(group, &file[..13], Question::Judge, refused(1, 0));
+    expect_verdict::<Gtc>(group, &file[..13], Verdict::refused(1, 0));
 }
 
 // Every printed genotype: its letters and how many of them are B.
@@ -167,7 +151,7 @@ fn genotypes(group: &mut Group) {
 fn forbidden_code(group: &mut Group) {
     group.input();
     let file = samples::code_46();
-    expect(group, &file, Question::Judge, whole(file.len() as u64));
+    expect_verdict::<Gtc>(group, &file, Verdict::whole(file.len() as u64));
     expect(group, &file, Question::Snp(3), no_snp(11));
     expect(group, &file, Question::Snp(0), no_snp(12));
     expect(group, &file, Question::Snp(4), no_snp(12));
@@ -211,7 +195,6 @@ fn program_lines(group: &mut Group) {
         (b"gtc".to_vec(), "GTC refused 1 at 0\n"),
         (b"gt".to_vec(), "unknown\n"),
     ] {
-        let lines = program::lines(&file);
-        group.check(lines == printed, &file, || format!("reader {lines:?}"));
+        expect_lines(group, &file, printed);
     }
 }

@@ -1,18 +1,18 @@
 //! Calls with their arguments, asked of the library and of the reader alike.
 
 use super::answers::{Snp, TransformationAnswer, SNP_NUMBERS};
-use super::draft::{listed_ids, TRANSFORMATIONS};
+use super::draft::{listed_ids, Draft, TRANSFORMATIONS};
 use super::generate::UNLISTED;
 use super::library;
 use super::reader::{self, SnpArrays};
-use crate::answers::{Found, Verdict, Written};
-use crate::arguments::{bulk_rooms, numbers_around, sample};
-use crate::format;
+use super::Gtc;
+use crate::answers::{Found, Written};
+use crate::arguments::{bulk_rooms_from, numbers_around, sample};
+use crate::format::{self, Calls};
 use crate::little_endian::u32_at;
 
 #[derive(Clone, Copy, Debug)]
 pub enum Question {
-    Judge,
     Lookup(u16),
     Snp(u64),
     Snps { first: u64, room: usize },
@@ -21,7 +21,6 @@ pub enum Question {
 
 #[derive(Clone, Debug, PartialEq)]
 pub enum Answer {
-    Verdict(Verdict),
     Found(Found),
     Snp(Snp),
     Snps(Written<u64>),
@@ -30,31 +29,28 @@ pub enum Answer {
 }
 
 impl format::Answer for Answer {
-    fn verdict(&self) -> Option<Verdict> {
+    fn refusal(&self) -> u64 {
         match self {
-            Answer::Verdict(verdict) => Some(*verdict),
-            _ => None,
+            Answer::Found(found) => found.refusal,
+            Answer::Snp(snp) => snp.refusal,
+            Answer::Snps(written) => written.listed.refusal,
+            Answer::Transformation(answer, _) => answer.refusal,
         }
     }
 
-    fn is_cut_short(&self) -> bool {
+    fn is_untouched(&self) -> bool {
         match self {
-            Answer::Verdict(verdict) => verdict.refusal == 1,
-            Answer::Found(found) => found.refusal == 1,
-            Answer::Snp(snp) => snp.refusal == 1,
-            Answer::Snps(written) => written.is_cut_short(),
-            Answer::Transformation(answer, _) => answer.refusal == 1,
+            Answer::Snps(written) => written.is_untouched(),
+            _ => true,
         }
     }
 }
 
 impl format::Question for Question {
     type Answer = Answer;
-    const JUDGE: Question = Question::Judge;
 
     fn ask_library(&self, bytes: &[u8]) -> Answer {
         match *self {
-            Question::Judge => Answer::Verdict(library::judge(bytes)),
             Question::Lookup(id) => Answer::Found(library::lookup(bytes, id)),
             Question::Snp(number) => Answer::Snp(library::snp(bytes, number)),
             Question::Snps { first, room } => {
@@ -70,7 +66,6 @@ impl format::Question for Question {
 
     fn ask_reader(&self, bytes: &[u8]) -> Answer {
         match *self {
-            Question::Judge => Answer::Verdict(reader::judge(bytes).into()),
             Question::Lookup(id) => Answer::Found(reader::lookup(bytes, id).into()),
             Question::Snp(number) => Answer::Snp(reader::snp(bytes, number).into()),
             Question::Snps { first, room } => {
@@ -99,25 +94,26 @@ fn bits_at(bytes: &[u8], answer: &TransformationAnswer) -> [u32; 12] {
     bits
 }
 
-/// Every call on the file: for all ids of the format, for others, and for every kind of number.
-pub fn questions(bytes: &[u8], more: &[u16]) -> Vec<Question> {
-    let mut list = vec![Question::Judge];
-    list.extend(ids(bytes, more).into_iter().map(Question::Lookup));
-    let snps = SnpArrays::of(bytes).map_or(2, |arrays| arrays.count());
-    for number in numbers_around(snps as u64) {
-        list.push(Question::Snp(number));
-        let left = (snps as u64 + 1).saturating_sub(number.max(1)) as usize;
-        for room in bulk_rooms(left, SNP_NUMBERS) {
-            list.push(Question::Snps {
-                first: number,
-                room,
-            });
+impl Calls for Gtc {
+    type Question = Question;
+
+    // For all ids of the format and for others, and for every kind of number.
+    fn questions(bytes: &[u8], draft: Option<&Draft>) -> Vec<Question> {
+        let ids = ids(bytes, &draft.map_or(Vec::new(), Draft::ids));
+        let mut list: Vec<Question> = ids.into_iter().map(Question::Lookup).collect();
+        let snps = SnpArrays::of(bytes).map_or(2, |arrays| arrays.count());
+        for number in numbers_around(snps as u64) {
+            list.push(Question::Snp(number));
+            for room in bulk_rooms_from(number, snps as u64, snps, SNP_NUMBERS) {
+                let first = number;
+                list.push(Question::Snps { first, room });
+            }
         }
+        let transformations = reader::lookup(bytes, TRANSFORMATIONS).map_or(2, |item| item.count);
+        let numbers = numbers_around(transformations);
+        list.extend(numbers.into_iter().map(Question::Transformation));
+        list
     }
-    let transformations = reader::lookup(bytes, TRANSFORMATIONS).map_or(2, |item| item.count);
-    let numbers = numbers_around(transformations);
-    list.extend(numbers.into_iter().map(Question::Transformation));
-    list
 }
 
 // All listed ids, a selection of the others in the file and in `more`, and ids that are in neither.

@@ -6,12 +6,13 @@ use super::draft::{
     VALUES,
 };
 use super::generate::{
-    array, long_file, plain_file, random_file, random_snp, random_snps, scanner, snp_items,
-    snp_of_code, text, transformation, Content, Snp,
+    array, plain_file, random_snp, random_snps, scanner, snp_items, snp_of_code, text,
+    transformation, Content, Snp,
 };
 use super::reader::{self, ENTRY_LENGTH, HEADER_LENGTH, TRANSFORMATION_LENGTH};
 use super::Gtc;
 use crate::floats::SINGLES;
+use crate::format::Files;
 use crate::groups::whole::compare_whole;
 use crate::random::Random;
 use crate::report::Group;
@@ -134,7 +135,7 @@ fn second_transformation(group: &mut Group, version: i32, floats: [u32; 12]) {
 pub fn long_files(group: &mut Group) {
     let mut random = Random::new(13);
     for count in [31, 32, 40, 130, 255, 256, 257, 500, 998, 999, 999, 999] {
-        compare_whole::<Gtc>(group, &long_file(&mut random, count));
+        compare_whole::<Gtc>(group, &Gtc::long_file(&mut random, count));
     }
     for count in [127, 128, 255, 256, 257, 300, 65_535, 65_536, 65_537] {
         let mut snps = Vec::new();
@@ -147,7 +148,7 @@ pub fn long_files(group: &mut Group) {
 pub fn parts(group: &mut Group) {
     let mut random = Random::new(14);
     for _ in 0..FILES_WITH_PARTS {
-        let draft = random_file(&mut random, 12);
+        let draft = Gtc::random_file(&mut random, 12);
         group.input();
         check_parts(group, &draft);
     }

@@ -2,6 +2,9 @@
 
 use super::draft::{Draft, Index, Layout, Read};
 use super::reader::{FIXED_HEADER, FIXED_READ_HEADER};
+use super::Sff;
+use crate::damage::each_value;
+use crate::format::Damage;
 use crate::random::Random;
 
 const MARKS: [&[u8; 4]; 6] = [b".sfg", b"\xAEsff", b".Sff", b".sFf", b"ffs.", b"ABIF"];
@@ -49,9 +52,34 @@ pub enum Change {
     Length(usize),
 }
 
-impl Change {
-    pub fn apply(self, draft: &mut Draft) {
-        match self {
+impl Damage for Sff {
+    type Change = Change;
+
+    fn bases() -> Vec<Draft> {
+        let one = Read::new(b"first", 4, &[1, 1, 1]);
+        let mut two = Read::new(b"", 4, &[2, 0, 2, 0, 0]);
+        two.clips = [2, 4, 0, 5];
+        let empty = Read::new(b"no bases", 4, &[]);
+        let no_flows = Read::new(b"read", 0, &[]);
+        let reads = vec![one.clone(), two.clone(), empty.clone()];
+        let index = |behind| Some(Index::new(behind, b"index of reads"));
+        let mut followed = Draft::new(4, 4, vec![one.clone()], None);
+        followed.tail = two.bytes();
+        vec![
+            Draft::new(4, 4, Vec::new(), None),
+            Draft::new(4, 4, Vec::new(), index(0)),
+            Draft::new(0, 0, vec![no_flows], None),
+            Draft::new(4, 4, vec![one], None),
+            Draft::new(4, 0, reads.clone(), index(0)),
+            Draft::new(4, 3, reads.clone(), index(1)),
+            Draft::new(4, 5, reads, index(3)),
+            Draft::new(4, 1, vec![empty, two], index(1)),
+            followed,
+        ]
+    }
+
+    fn apply(change: Change, draft: &mut Draft) {
+        match change {
             Change::Mark(mark) => draft.mark = mark,
             Change::Version(version) => draft.version = version,
             Change::Header(field, value) => set_header(draft, field, value),
@@ -71,6 +99,63 @@ impl Change {
             Change::Step(index, base, step) => draft.reads[index].steps[base] = step,
             Change::Length(length) => draft.length = Some(length),
         }
+    }
+
+    fn all_changes(draft: &Draft) -> Vec<Change> {
+        let layout = draft.layout();
+        let mut changes = header_changes(draft);
+        changes.extend(index_changes(draft, &layout));
+        for (index, read) in draft.reads.iter().enumerate() {
+            changes.extend(read_changes(index, read));
+            changes.extend(step_changes(index, read));
+        }
+        changes.extend(length_changes(draft, &layout));
+        changes
+    }
+
+    fn certain_faults(draft: &Draft) -> Vec<Change> {
+        let layout = draft.layout();
+        let length = u32::from(draft.header_length);
+        let mut faults = vec![
+            Change::Length(FIXED_HEADER - 1),
+            Change::Mark(*b".sfe"),
+            Change::Version([0, 0, 0, 2]),
+            Change::Header(HeaderField::Code, 2),
+            Change::Header(HeaderField::Length, length + 8),
+            Change::Header(HeaderField::Flows, u32::from(draft.flows) + 16),
+            Change::Header(HeaderField::Reads, draft.reads.len() as u32 + 2),
+            Change::Index(0, 8),
+            Change::Index(layout.header_end as u64, 0),
+            Change::Index(layout.header_end as u64, u32::MAX),
+            Change::Index(layout.end as u64, u32::MAX),
+            Change::Index(8, 8),
+            Change::Index(u64::MAX, 8),
+            Change::Length(layout.header_end - 1),
+            Change::Length(layout.end - 1),
+        ];
+        for (index, read) in draft.reads.iter().enumerate() {
+            faults.extend(certain_read_faults(layout.reads[index], index, read));
+        }
+        faults
+    }
+
+    // Headers of reads stand among the random bytes.
+    fn random_tail(random: &mut Random) -> Vec<u8> {
+        let flows = random.below(4) as u16;
+        let mut draft = Draft::new(flows, 4, Vec::new(), None);
+        draft.read_count = random.below(6) as u32;
+        if random.one_in(3) {
+            draft.index_offset = random.between(0, 20) as u64 * 8;
+            draft.index_length = random.below(30) as u32;
+        }
+        let header = draft.bytes();
+        let kept = random.pick(&[4, 8, 16, 20, 24, 26, 28, 30, 31, 40, 40, 40, 40, 40, 40]);
+        let mut bytes = header[..kept.min(header.len())].to_vec();
+        let length = random.between(20, 400);
+        while bytes.len() < length {
+            bytes.extend(loose_read(random, flows));
+        }
+        bytes
     }
 }
 
@@ -93,19 +178,6 @@ fn set_read(read: &mut Read, field: ReadField, value: u32) {
     }
 }
 
-/// Every single change of the fields and of the length, at and around each bound.
-pub fn all_changes(draft: &Draft) -> Vec<Change> {
-    let layout = draft.layout();
-    let mut changes = header_changes(draft);
-    changes.extend(index_changes(draft, &layout));
-    for (index, read) in draft.reads.iter().enumerate() {
-        changes.extend(read_changes(index, read));
-        changes.extend(step_changes(index, read));
-    }
-    changes.extend(length_changes(draft, &layout));
-    changes
-}
-
 fn header_changes(draft: &Draft) -> Vec<Change> {
     let mut changes: Vec<Change> = MARKS.map(|mark| Change::Mark(*mark)).into();
     changes.extend(VERSIONS.map(|version| Change::Version(version.to_be_bytes())));
@@ -118,9 +190,7 @@ fn header_changes(draft: &Draft) -> Vec<Change> {
         (HeaderField::KeyLength, letter_bounds(draft.key_length)),
         (HeaderField::Flows, letter_bounds(draft.flows)),
     ];
-    for (field, values) in fields {
-        changes.extend(values.into_iter().map(|value| Change::Header(field, value)));
-    }
+    changes.extend(each_value(fields, Change::Header));
     for moved in [1, 2, 8, draft.key_length] {
         let key_length = draft.key_length.wrapping_sub(moved);
         changes.push(Change::Letters(draft.flows.wrapping_add(moved), key_length));
@@ -200,12 +270,7 @@ fn read_changes(index: usize, read: &Read) -> Vec<Change> {
         values.extend([bases.saturating_sub(1), bases, bases.wrapping_add(1)]);
         fields.push((ReadField::Clip(which), values));
     }
-    let mut changes = Vec::new();
-    for (field, values) in fields {
-        for value in values {
-            changes.push(Change::Read(index, field, value));
-        }
-    }
+    let mut changes = each_value(fields, |field, value| Change::Read(index, field, value));
     for more in [8, 16, 24] {
         let header_length = read.header_length.wrapping_add(more);
         let name_length = read.name_length.wrapping_add(more);
@@ -261,33 +326,6 @@ fn length_changes(draft: &Draft, layout: &Layout) -> Vec<Change> {
     lengths.into_iter().map(Change::Length).collect()
 }
 
-/// One change for each rule, which surely breaks it; pairs of these show the order of checks.
-pub fn certain_faults(draft: &Draft) -> Vec<Change> {
-    let layout = draft.layout();
-    let length = u32::from(draft.header_length);
-    let mut faults = vec![
-        Change::Length(FIXED_HEADER - 1),
-        Change::Mark(*b".sfe"),
-        Change::Version([0, 0, 0, 2]),
-        Change::Header(HeaderField::Code, 2),
-        Change::Header(HeaderField::Length, length + 8),
-        Change::Header(HeaderField::Flows, u32::from(draft.flows) + 16),
-        Change::Header(HeaderField::Reads, draft.reads.len() as u32 + 2),
-        Change::Index(0, 8),
-        Change::Index(layout.header_end as u64, 0),
-        Change::Index(layout.header_end as u64, u32::MAX),
-        Change::Index(layout.end as u64, u32::MAX),
-        Change::Index(8, 8),
-        Change::Index(u64::MAX, 8),
-        Change::Length(layout.header_end - 1),
-        Change::Length(layout.end - 1),
-    ];
-    for (index, read) in draft.reads.iter().enumerate() {
-        faults.extend(certain_read_faults(layout.reads[index], index, read));
-    }
-    faults
-}
-
 fn certain_read_faults(place: usize, index: usize, read: &Read) -> Vec<Change> {
     let header_length = u32::from(read.header_length);
     let mut faults = vec![
@@ -303,49 +341,6 @@ fn certain_read_faults(place: usize, index: usize, read: &Read) -> Vec<Change> {
         faults.push(Change::Step(index, read.steps.len() - 1, 255));
     }
     faults
-}
-
-/// Small whole files of different shapes that the changes are made to.
-pub fn bases() -> Vec<Draft> {
-    let one = Read::new(b"first", 4, &[1, 1, 1]);
-    let mut two = Read::new(b"", 4, &[2, 0, 2, 0, 0]);
-    two.clips = [2, 4, 0, 5];
-    let empty = Read::new(b"no bases", 4, &[]);
-    let no_flows = Read::new(b"read", 0, &[]);
-    let reads = vec![one.clone(), two.clone(), empty.clone()];
-    let index = |behind| Some(Index::new(behind, b"index of reads"));
-    let mut followed = Draft::new(4, 4, vec![one.clone()], None);
-    followed.tail = two.bytes();
-    vec![
-        Draft::new(4, 4, Vec::new(), None),
-        Draft::new(4, 4, Vec::new(), index(0)),
-        Draft::new(0, 0, vec![no_flows], None),
-        Draft::new(4, 4, vec![one], None),
-        Draft::new(4, 0, reads.clone(), index(0)),
-        Draft::new(4, 3, reads.clone(), index(1)),
-        Draft::new(4, 5, reads, index(3)),
-        Draft::new(4, 1, vec![empty, two], index(1)),
-        followed,
-    ]
-}
-
-/// Random bytes behind a beginning of a sound header, with headers of reads among them.
-pub fn random_tail(random: &mut Random) -> Vec<u8> {
-    let flows = random.below(4) as u16;
-    let mut draft = Draft::new(flows, 4, Vec::new(), None);
-    draft.read_count = random.below(6) as u32;
-    if random.one_in(3) {
-        draft.index_offset = random.between(0, 20) as u64 * 8;
-        draft.index_length = random.below(30) as u32;
-    }
-    let header = draft.bytes();
-    let kept = random.pick(&[4, 8, 16, 20, 24, 26, 28, 30, 31, 40, 40, 40, 40, 40, 40]);
-    let mut bytes = header[..kept.min(header.len())].to_vec();
-    let length = random.between(20, 400);
-    while bytes.len() < length {
-        bytes.extend(loose_read(random, flows));
-    }
-    bytes
 }
 
 // The lengths mostly agree, and the data are mostly as long as they say.

@@ -1,6 +1,8 @@
 //! A file before it is written out, with every field open to change.
 
 use super::reader::{FIXED_HEADER, FIXED_READ_HEADER};
+use crate::answers::Verdict;
+use crate::format;
 use std::ops::Range;
 
 /// The parts of a read as they are written, whatever its lengths say about them.
@@ -197,9 +199,19 @@ impl Draft {
         }
         bytes
     }
+}
 
-    /// Where the fields of the header and of the reads stand, a read's flow steps too.
-    pub fn fields(&self) -> Vec<Range<usize>> {
+impl format::Draft for Draft {
+    fn bytes(&self) -> Vec<u8> {
+        Draft::bytes(self)
+    }
+
+    fn verdict(&self) -> Verdict {
+        Verdict::whole(self.layout().end as u64)
+    }
+
+    // With the reads' flow steps.
+    fn fields(&self) -> Vec<Range<usize>> {
         let mut fields = Vec::new();
         fields.push(0..FIXED_HEADER);
         for (place, read) in self.layout().reads.into_iter().zip(&self.reads) {

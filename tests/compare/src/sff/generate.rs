@@ -1,30 +1,34 @@
 //! Whole files of many shapes.
 
 use super::draft::{Draft, Index, Read};
+use super::Sff;
+use crate::format::Files;
 use crate::random::Random;
 
 const LARGEST_STEP: usize = 255;
 
-/// A whole file of a random shape with at most this many reads.
-pub fn random_file(random: &mut Random, most: usize) -> Draft {
-    let flows = match random.below(20) {
-        0 => 0,
-        1 => 1,
-        2 => random.between(100, 400) as u16,
-        _ => random.between(2, 12) as u16,
-    };
-    let count = match random.below(20) {
-        0 | 1 => 0,
-        2..=15 => random.between(1, most.min(4)),
-        _ => random.between(1, most),
-    };
-    file_of(random, flows, count)
-}
+impl Files for Sff {
+    type Draft = Draft;
 
-/// A whole file with this many reads.
-pub fn long_file(random: &mut Random, count: usize) -> Draft {
-    let flows = random.between(1, 20) as u16;
-    file_of(random, flows, count)
+    fn random_file(random: &mut Random, most: usize) -> Draft {
+        let flows = match random.below(20) {
+            0 => 0,
+            1 => 1,
+            2 => random.between(100, 400) as u16,
+            _ => random.between(2, 12) as u16,
+        };
+        let count = match random.below(20) {
+            0 | 1 => 0,
+            2..=15 => random.between(1, most.min(4)),
+            _ => random.between(1, most),
+        };
+        file_of(random, flows, count)
+    }
+
+    fn long_file(random: &mut Random, count: usize) -> Draft {
+        let flows = random.between(1, 20) as u16;
+        file_of(random, flows, count)
+    }
 }
 
 fn file_of(random: &mut Random, flows: u16, count: usize) -> Draft {

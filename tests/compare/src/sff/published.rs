@@ -1,11 +1,10 @@
 //! The published samples with their published answers, asked of library and reader.
 
-use super::answers::{Flow, Header, Read, READ_NUMBERS};
+use super::answers::{Flow, Header, Read};
 use super::questions::{Answer, Question};
-use super::samples;
-use crate::answers::{Listed, Verdict, Written};
-use crate::groups::expect;
-use crate::program;
+use super::{samples, Sff};
+use crate::answers::{Verdict, Written};
+use crate::groups::published::{expect, expect_lines, expect_verdict};
 use crate::report::Group;
 
 pub fn samples(group: &mut Group) {
@@ -13,14 +12,6 @@ pub fn samples(group: &mut Group) {
     no_reads(group);
     one_read(group);
     program_lines(group);
-}
-
-fn whole(extent: u64) -> Answer {
-    Answer::Verdict(Verdict::whole(extent))
-}
-
-fn refused(refusal: u64, entry: u64) -> Answer {
-    Answer::Verdict(Verdict::refused(refusal, entry))
 }
 
 fn no_read(refusal: u64) -> Answer {
@@ -49,7 +40,7 @@ fn no_bytes(group: &mut Group) {
         refusal: 1,
         ..Header::default()
     };
-    expect(group, &[], Question::Judge, refused(1, 0));
+    expect_verdict::<Sff>(group, &[], Verdict::refused(1, 0));
     expect(group, &[], Question::Header, Answer::Header(header));
     expect(group, &[], Question::Read(1), no_read(1));
     expect(group, &[], flow(1, 1), flow_answer(1, 0));
@@ -67,10 +58,10 @@ fn no_reads(group: &mut Group) {
         key_start: 35,
         ..Header::default()
     };
-    expect(group, &file, Question::Judge, whole(40));
+    expect_verdict::<Sff>(group, &file, Verdict::whole(40));
     expect(group, &file, Question::Header, Answer::Header(header));
     expect(group, &file, Question::Read(1), no_read(7));
-    expect(group, &file[..39], Question::Judge, refused(1, 0));
+    expect_verdict::<Sff>(group, &file[..39], Verdict::refused(1, 0));
     expect(group, &file, reads(1, 40), no_reads_of(7, 40));
 }
 
@@ -96,21 +87,15 @@ fn one_read(group: &mut Group) {
         insert_start: 76,
         insert_length: 2,
     };
-    expect(group, &file, Question::Judge, whole(88));
+    expect_verdict::<Sff>(group, &file, Verdict::whole(88));
     expect(group, &file, Question::Read(1), Answer::Read(read));
     expect(group, &file, Question::Read(2), no_read(7));
     expect(group, &file, flow(1, 1), flow_answer(0, 1));
     expect(group, &file, flow(1, 3), flow_answer(0, 3));
     expect(group, &file, flow(1, 4), flow_answer(12, 0));
-    expect(group, &file[..87], Question::Judge, refused(1, 1));
-    let written = Answer::Reads(Written::by(40, |out| {
-        out[..READ_NUMBERS]
-            .copy_from_slice(&[0, 40, 56, 5, 3, 2, 0, 0, 0, 64, 72, 75, 78, 2, 3, 76, 2]);
-        Listed {
-            refusal: 0,
-            count: 1,
-        }
-    }));
+    expect_verdict::<Sff>(group, &file[..87], Verdict::refused(1, 1));
+    let numbers = [0, 40, 56, 5, 3, 2, 0, 0, 0, 64, 72, 75, 78, 2, 3, 76, 2];
+    let written = Answer::Reads(Written::holding(40, &numbers, 1));
     expect(group, &file, reads(1, 40), written);
     expect(group, &file, reads(1, 16), no_reads_of(13, 16));
     expect(group, &file, reads(2, 40), no_reads_of(7, 40));
@@ -122,7 +107,6 @@ fn program_lines(group: &mut Group) {
         (samples::no_reads(), "SFF whole 40 of 40\n"),
         (samples::one_read(), "SFF whole 88 of 88\n"),
     ] {
-        let lines = program::lines(&file);
-        group.check(lines == printed, &file, || format!("reader {lines:?}"));
+        expect_lines(group, &file, printed);
     }
 }

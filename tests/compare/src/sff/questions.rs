@@ -1,15 +1,16 @@
 //! Calls with their arguments, asked of the library and of the reader alike.
 
 use super::answers::{Flow, Header, Read, READ_NUMBERS};
+use super::draft::Draft;
 use super::library;
 use super::reader::{self, FIXED_READ_HEADER};
-use crate::answers::{Verdict, Written};
-use crate::arguments::{bulk_rooms, distinct, numbers_around};
-use crate::format;
+use super::Sff;
+use crate::answers::Written;
+use crate::arguments::{bulk_rooms_from, distinct, numbers_around};
+use crate::format::{self, Calls};
 
 #[derive(Clone, Copy, Debug)]
 pub enum Question {
-    Judge,
     Header,
     Read(u64),
     Reads { first: u64, room: usize },
@@ -18,7 +19,6 @@ pub enum Question {
 
 #[derive(Clone, Debug, PartialEq)]
 pub enum Answer {
-    Verdict(Verdict),
     Header(Header),
     Read(Read),
     Reads(Written<u64>),
@@ -26,31 +26,28 @@ pub enum Answer {
 }
 
 impl format::Answer for Answer {
-    fn verdict(&self) -> Option<Verdict> {
+    fn refusal(&self) -> u64 {
         match self {
-            Answer::Verdict(verdict) => Some(*verdict),
-            _ => None,
+            Answer::Header(header) => header.refusal,
+            Answer::Read(read) => read.refusal,
+            Answer::Reads(written) => written.listed.refusal,
+            Answer::Flow(flow) => flow.refusal,
         }
     }
 
-    fn is_cut_short(&self) -> bool {
+    fn is_untouched(&self) -> bool {
         match self {
-            Answer::Verdict(verdict) => verdict.refusal == 1,
-            Answer::Header(header) => header.refusal == 1,
-            Answer::Read(read) => read.refusal == 1,
-            Answer::Reads(written) => written.is_cut_short(),
-            Answer::Flow(flow) => flow.refusal == 1,
+            Answer::Reads(written) => written.is_untouched(),
+            _ => true,
         }
     }
 }
 
 impl format::Question for Question {
     type Answer = Answer;
-    const JUDGE: Question = Question::Judge;
 
     fn ask_library(&self, bytes: &[u8]) -> Answer {
         match *self {
-            Question::Judge => Answer::Verdict(library::judge(bytes)),
             Question::Header => Answer::Header(library::header(bytes)),
             Question::Read(number) => Answer::Read(library::read(bytes, number)),
             Question::Reads { first, room } => {
@@ -65,7 +62,6 @@ impl format::Question for Question {
 
     fn ask_reader(&self, bytes: &[u8]) -> Answer {
         match *self {
-            Question::Judge => Answer::Verdict(reader::judge(bytes).into()),
             Question::Header => Answer::Header(reader::header(bytes).into()),
             Question::Read(number) => Answer::Read(reader::read(bytes, number).into()),
             Question::Reads { first, room } => {
@@ -79,22 +75,29 @@ impl format::Question for Question {
     }
 }
 
+impl Calls for Sff {
+    type Question = Question;
+
+    // For the reads of the file and for reads that it does not have.
+    fn questions(bytes: &[u8], _draft: Option<&Draft>) -> Vec<Question> {
+        let reached = reader::reached(bytes).len();
+        let stated = reader::header(bytes).map_or(1, |header| header.reads.into());
+        let mut list = vec![Question::Header];
+        for number in numbers(stated, reached as u64) {
+            list.push(Question::Read(number));
+            flow_questions(bytes, number, &mut list);
+            for room in bulk_rooms_from(number, stated, most_reads(bytes), READ_NUMBERS) {
+                let first = number;
+                list.push(Question::Reads { first, room });
+            }
+        }
+        list
+    }
+}
+
 // No file has more reads than their headers have room.
 fn most_reads(bytes: &[u8]) -> usize {
     bytes.len() / FIXED_READ_HEADER
-}
-
-/// Every call on the file: for its reads and for reads that it does not have.
-pub fn questions(bytes: &[u8]) -> Vec<Question> {
-    let reached = reader::reached(bytes).len();
-    let stated = reader::header(bytes).map_or(1, |header| header.reads.into());
-    let mut list = vec![Question::Judge, Question::Header];
-    for number in numbers(stated, reached as u64) {
-        list.push(Question::Read(number));
-        flow_questions(bytes, number, &mut list);
-        bulk_questions(number, stated, most_reads(bytes) as u64, &mut list);
-    }
-    list
 }
 
 // The first reads, around the last, the first that cannot be reached, and none.
@@ -113,12 +116,5 @@ fn flow_questions(bytes: &[u8], number: u64, list: &mut Vec<Question>) {
     };
     for base in bases {
         list.push(Question::FlowOfBase { number, base });
-    }
-}
-
-fn bulk_questions(first: u64, stated: u64, most: u64, list: &mut Vec<Question>) {
-    let left = (stated + 1).saturating_sub(first.max(1));
-    for room in bulk_rooms(left.min(most) as usize, READ_NUMBERS) {
-        list.push(Question::Reads { first, room });
     }
 }

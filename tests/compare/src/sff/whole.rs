@@ -2,8 +2,9 @@
 
 use super::answers::{self, READ_NUMBERS};
 use super::draft::{Draft, Index, Read};
-use super::generate::{instrument_file, long_file, raise, random_file};
+use super::generate::{instrument_file, raise};
 use super::{reader, Sff};
+use crate::format::Files;
 use crate::groups::damaged::compare_changed;
 use crate::groups::whole::compare_whole;
 use crate::random::Random;
@@ -130,7 +131,7 @@ fn fits_or_not(group: &mut Group, draft: &Draft, length: usize) {
 pub fn long_files(group: &mut Group) {
     let mut random = Random::new(13);
     for count in [11, 40, 100, 255, 256, 257, 400, 499, 500, 500, 500] {
-        compare_whole::<Sff>(group, &long_file(&mut random, count));
+        compare_whole::<Sff>(group, &Sff::long_file(&mut random, count));
     }
     let like = instrument_file(&mut random, FILE_LIKE_THE_INSTRUMENTS);
     compare_whole::<Sff>(group, &like);
@@ -142,7 +143,7 @@ pub fn long_files(group: &mut Group) {
 pub fn parts(group: &mut Group) {
     let mut random = Random::new(14);
     for _ in 0..FILES_WITH_PARTS {
-        let draft = random_file(&mut random, 12);
+        let draft = Sff::random_file(&mut random, 12);
         let bytes = draft.bytes();
         group.input();
         let mut walked = Vec::new();

@@ -100,14 +100,10 @@ const ALL: [(&str, Break); 9] = [
         replaced(text, "REFUSED: NOT COMPLETE", "REFUSED: DAMAGED")
     }),
     ("another meaning", |text| {
-        let from = text.find("class=\"meaning\"")?;
-        let rest = replaced(&text[from..], "This file", "That file")?;
-        Some([&text[..from], &rest].concat())
+        replaced_behind(text, "class=\"meaning\"", "This file", "That file")
     }),
     ("another name", |text| {
-        let from = text.find("class=\"title\"")?;
-        let rest = replaced(&text[from..], ">cut-", ">")?;
-        Some([&text[..from], &rest].concat())
+        replaced_behind(text, "class=\"title\"", ">cut-", ">")
     }),
     ("no banner", |text| {
         replaced(text, "class=\"verdict\"", "class=\"other\"")
@@ -145,14 +141,10 @@ const LOOKS: [(&str, Break); 6] = [
         )
     }),
     ("a black text in the banner", |text| {
-        let rule = text.find(".entry{")?;
-        let rest = replaced(&text[rule..], "fill:#fff", "fill:#000")?;
-        Some([&text[..rule], &rest].concat())
+        replaced_behind(text, ".entry{", "fill:#fff", "fill:#000")
     }),
     ("a letter of another colour", |text| {
-        let from = text.find("class=\"letter\"")?;
-        let rest = replaced(&text[from..], "fill=\"#", "fill=\"#1")?;
-        Some([&text[..from], &rest].concat())
+        replaced_behind(text, "class=\"letter\"", "fill=\"#", "fill=\"#1")
     }),
     ("two channels that look the same", |text| {
         let from = text.find("data-part=\"DATA 9\" stroke=\"")?;
@@ -187,9 +179,7 @@ const ENDS: [(&str, Break); 7] = [
         without(text, "<rect class=\"ended\"", "/>")
     }),
     ("a box behind another point", |text| {
-        let from = text.find("class=\"ended\"")?;
-        let rest = replaced(&text[from..], "data-count=\"", "data-count=\"1")?;
-        Some([&text[..from], &rest].concat())
+        replaced_behind(text, "class=\"ended\"", "data-count=\"", "data-count=\"1")
     }),
     ("no words at a channel's end", |text| {
         without(text, "<text class=\"ended-words\"", "</text>")
@@ -266,17 +256,13 @@ const PAGES: [(&str, Break); 7] = [
 
 const SFF: [(&str, Break); 6] = [
     ("a bar of another height", |text| {
-        let from = text.find("class=\"flow\"")?;
-        let rest = replaced(&text[from..], " height=\"", " height=\"1")?;
-        Some([&text[..from], &rest].concat())
+        replaced_behind(text, "class=\"flow\"", " height=\"", " height=\"1")
     }),
     ("a flow of another value", |text| {
         replaced(text, "data-value=\"", "data-value=\"1")
     }),
     ("a base at another flow", |text| {
-        let from = text.find("class=\"letter")?;
-        let rest = replaced(&text[from..], "data-flow=\"", "data-flow=\"1")?;
-        Some([&text[..from], &rest].concat())
+        replaced_behind(text, "class=\"letter", "data-flow=\"", "data-flow=\"1")
     }),
     ("a clipped base that looks kept", |text| {
         replaced(text, "class=\"letter clipped\"", "class=\"letter\"")
@@ -291,9 +277,7 @@ const SFF: [(&str, Break); 6] = [
 
 const GTC: [(&str, Break); 4] = [
     ("a mark at another place", |text| {
-        let from = text.find("<path class=\"snps\"")?;
-        let rest = replaced(&text[from..], " d=\"M", " d=\"M9")?;
-        Some([&text[..from], &rest].concat())
+        replaced_behind(text, "<path class=\"snps\"", " d=\"M", " d=\"M9")
     }),
     ("marks for another genotype", |text| {
         replaced(text, "data-genotype=\"unread\"", "data-genotype=\"AA\"")
@@ -401,6 +385,13 @@ impl Subject {
 
 fn replaced(text: &str, from: &str, to: &str) -> Option<String> {
     text.contains(from).then(|| text.replacen(from, to, 1))
+}
+
+// The picture with the first of these behind the first mark replaced.
+fn replaced_behind(text: &str, mark: &str, from: &str, to: &str) -> Option<String> {
+    let place = text.find(mark)?;
+    let rest = replaced(&text[place..], from, to)?;
+    Some([&text[..place], &rest].concat())
 }
 
 fn last_replaced(text: &str, from: &str, to: &str) -> Option<String> {

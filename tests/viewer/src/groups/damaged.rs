@@ -5,7 +5,7 @@ use crate::{abif, gtc, sff};
 use compare::abif::reader::open;
 use compare::abif::Abif;
 use compare::damage::{random_byte_changes, random_changes};
-use compare::format::Format;
+use compare::format::{Draft, Format};
 use compare::gtc::Gtc;
 use compare::random::Random;
 use compare::report::Group;
@@ -86,8 +86,8 @@ fn generated<F: Format>() -> Vec<Input> {
     let mut random = Random::new(82);
     let mut inputs = Vec::new();
     for number in 0..GENERATED {
-        let draft = random_changes::<F>(&mut random);
-        inputs.push(Input::new(format!("draft {number}"), F::bytes(&draft)));
+        let bytes = random_changes::<F>(&mut random).bytes();
+        inputs.push(Input::new(format!("draft {number}"), bytes));
         let bytes = random_byte_changes::<F>(&mut random);
         inputs.push(Input::new(format!("random file {number}"), bytes));
     }

@@ -15,7 +15,6 @@ use crate::words::{self, cleaned};
 use crate::{abif, gtc, sff, workers};
 use compare::refusal::Refusal;
 use compare::report::Group;
-use compare::samples;
 use std::ffi::OsString;
 use std::fs;
 use std::os::unix::ffi::OsStrExt;
@@ -246,10 +245,7 @@ fn counted(count: usize, what: &str) -> String {
 }
 
 pub fn export(group: &mut Group) {
-    let samples = samples::all().into_iter();
-    let samples: Vec<Input> = samples
-        .map(|(name, bytes)| Input::new(name, bytes))
-        .collect();
+    let samples = Input::samples();
     check_all(group, &samples, true);
     check_all(group, &whole_files(), true);
     check_all(group, &other_files(), false);

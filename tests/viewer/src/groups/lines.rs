@@ -1,6 +1,6 @@
 //! The lines of files that are judged by name.
 
-use crate::program::{output, repository, Output, Program};
+use crate::program::{lines_begin, output, repository, Output, Program};
 use crate::scratch::Scratch;
 use crate::verdict;
 use compare::report::Group;
@@ -141,11 +141,7 @@ fn check_other_lines(group: &mut Group, output: &Output) {
         "samples/cut-run.sff: SFF refused 1 at 3",
         "  NOT COMPLETE: this file ends inside read 3 of 3, ",
     ];
-    let fits = lines.lines().count() == starts.len()
-        && lines
-            .lines()
-            .zip(starts)
-            .all(|(line, start)| line.starts_with(start));
+    let fits = lines_begin(&lines, &starts);
     group.check(fits && output.status == Some(2), &[], || {
         format!("{output:?}")
     });

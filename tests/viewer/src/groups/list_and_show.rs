@@ -14,7 +14,6 @@ use compare::abif::generate::{plain_file, Content, Order};
 use compare::abif::reader::{element, lookup, open, text, Tag, Type};
 use compare::refusal::Refusal;
 use compare::report::Group;
-use compare::samples;
 use compare::sff::reader::every_read;
 use std::ffi::OsString;
 use std::os::unix::ffi::{OsStrExt, OsStringExt};
@@ -31,10 +30,7 @@ const MOST_TIME: Duration = Duration::from_secs(1);
 const MOST_TAGS: usize = 30;
 
 pub fn list_and_show(group: &mut Group) {
-    let samples = samples::all().into_iter();
-    let mut inputs: Vec<Input> = samples
-        .map(|(name, bytes)| Input::new(name, bytes))
-        .collect();
+    let mut inputs = Input::samples();
     inputs.extend(abif_files(DAMAGED));
     inputs.extend(sff_files(DAMAGED));
     inputs.extend(gtc_files(DAMAGED));

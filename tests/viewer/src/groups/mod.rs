@@ -6,6 +6,7 @@ mod cuts;
 mod damaged;
 mod dyes;
 mod export;
+mod folder;
 mod interrupted;
 mod lines;
 mod list_and_show;
@@ -19,7 +20,6 @@ mod points;
 mod printed;
 mod rows;
 mod sanitized;
-mod shelf;
 pub mod stored;
 mod terminal;
 mod well_formed;
@@ -28,7 +28,7 @@ use compare::report::Run;
 
 pub const ALL: [(&str, Run); 29] = [
     ("lines", lines::lines),
-    ("shelf", shelf::shelf),
+    ("folder", folder::folder),
     ("stored", stored::compare),
     ("options", options::options),
     ("not readable", not_readable::not_readable),

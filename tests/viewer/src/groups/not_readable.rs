@@ -1,6 +1,6 @@
 //! Files and folders that may not be read, and outputs that cannot be written.
 
-use crate::program::{output, Program};
+use crate::program::{lines_begin, output, Program};
 use crate::scratch::Scratch;
 use compare::report::Group;
 use compare::sff::draft::{Draft, Read};
@@ -70,7 +70,7 @@ fn fill(scratch: &Scratch) {
     }
 }
 
-// The rest of the shelf is judged, and both are counted.
+// The rest of the folder is judged, and both are counted.
 fn closed_to_the_program(group: &mut Group, scratch: &Scratch) {
     let is_superuser = fs::read(scratch.path("b.sff")).is_ok();
     let before = if is_superuser { &AS_NOBODY[..] } else { &AS_IS };
@@ -102,11 +102,7 @@ fn closed_to_the_program(group: &mut Group, scratch: &Scratch) {
         "jtview: ./b.sff: ",
         "jtview: ./closed: ",
     ];
-    let fits = complaint.lines().count() == starts.len()
-        && complaint
-            .lines()
-            .zip(starts)
-            .all(|(line, start)| line.starts_with(start));
+    let fits = lines_begin(&complaint, &starts);
     group.check(fits, &[], || format!("complained {complaint:?}"));
 }
 

@@ -1,5 +1,6 @@
 //! The sanitized program, which must do as the plain one does.
 
+use super::cuts::cuts;
 use super::damaged::{abif_files, gtc_files, sff_files};
 use super::export::all_asked;
 use crate::drawing::{draw, Input, Wish, PAPERS, PLAIN};
@@ -11,7 +12,6 @@ use crate::{abif, gtc, sff, workers};
 use compare::abif::generate::Order;
 use compare::abif::reader::open;
 use compare::report::Group;
-use compare::samples;
 use std::ffi::OsString;
 use std::os::unix::ffi::OsStringExt;
 use std::path::{Path, PathBuf};
@@ -42,13 +42,9 @@ pub fn sanitized(group: &mut Group) {
         let message = || format!("no viewer at {}", program.path().display());
         return group.check(false, &[], message);
     }
-    let samples = samples::all().into_iter();
-    let samples: Vec<Input> = samples
-        .map(|(name, bytes)| Input::new(name, bytes))
-        .collect();
-    compare_all(group, &samples, true);
+    compare_all(group, &Input::samples(), true);
     compare_all(group, &damaged(), false);
-    compare_all(group, &cuts(), false);
+    compare_all(group, &cuts(&small_files()), false);
 }
 
 fn damaged() -> Vec<Input> {
@@ -58,22 +54,13 @@ fn damaged() -> Vec<Input> {
     inputs
 }
 
-// Every cut of one small file of each format.
-fn cuts() -> Vec<Input> {
-    let run = abif::files::run([7, 5, 9, 6], Order::DirectoryFirst);
-    let files = [
-        run,
+// One of each format.
+fn small_files() -> [Vec<u8>; 3] {
+    [
+        abif::files::run([7, 5, 9, 6], Order::DirectoryFirst),
         sff::files::runs().swap_remove(1),
         gtc::files::files().swap_remove(3),
-    ];
-    let mut inputs = Vec::new();
-    for file in files {
-        for length in 0..=file.len() {
-            let name = format!("cut to {length} of {}", file.len());
-            inputs.push(Input::new(name, file[..length].to_vec()));
-        }
-    }
-    inputs
+    ]
 }
 
 // Of many files not every command is run on each, but in turn.

@@ -3,7 +3,7 @@ use native.Mathlib.Omega.{arith}
 use borrow.Author.Needs.{needs}
 use Rattle.reading.specs.Part.{shown}
 use Rattle.reading.proofs.Parts.{part-there}
-use Rattle.abif.specs.Lookup.{found}
+use Rattle.reading.specs.Answers.{answerOfFound}
 use Rattle.abif.proofs.lookup.Laws.{found-checked}
 use Rattle.abif.proofs.lookup.data_part.Statement.{statement}
 use Rattle.abif.proofs.lookup.data_part.Tie as tie
@@ -33,7 +33,7 @@ returns-2 c =
     let o = c .before .before .before .before in
     let g = o .before .before .args in
     let a = c .before .before in
-    let w = found-checked (g .s .now) (g .name) (g .number) _ (sym (o .lookup .ensures) ∙ ap found (a .q .given .1)) in
+    let w = found-checked (g .s .now) (g .name) (g .number) _ (sym (o .lookup .ensures) ∙ ap answerOfFound (a .q .given .1)) in
     c .part2 .ensures ∙ part-there (shown (g .s)) _ _ (w .within) ∙ rw (← o .lookup .ensures, a .q .given .1)
 
 pub data-part-spec : {M : Type 1} → statement M

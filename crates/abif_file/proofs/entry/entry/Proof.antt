@@ -3,7 +3,7 @@ use native.Mathlib.Omega.{arith}
 use lib.ListN.{length-take}
 use borrow.Author.Needs.{needs}
 use Rattle.reading.specs.Check.{ok}
-use Rattle.abif.specs.Directory.{opened}
+use Rattle.abif.specs.Answers.{answerOfOpened}
 use Rattle.abif_file.specs.Entry.{entryReading}
 use Rattle.abif.proofs.directory.Laws.{opened-at, after-refused}
 use Rattle.abif_file.proofs.entry.Laws.{entry-before, entry-past, entry-there}
@@ -24,7 +24,7 @@ returns c =
     let a = c .before .before in
     let o = a .before .before in
     let g = o .before .before .args in
-    entry-before (g .s .now) (g .index) _ _ (sym (o .open .ensures) ∙ ap opened (a .place .given .1)) (c .if1 .taken)
+    entry-before (g .s .now) (g .index) _ _ (sym (o .open .ensures) ∙ ap answerOfOpened (a .place .given .1)) (c .if1 .taken)
 
 cast-if2 : tie.Need-cast-if2
 cast-if2 c = search needs
@@ -34,7 +34,7 @@ returns-2 c =
     let a = c .before .before .before in
     let o = a .before .before in
     let g = o .before .before .args in
-    entry-past (g .s .now) (g .index) _ _ (sym (o .open .ensures) ∙ ap opened (a .place .given .1)) (c .before .if1 .left) (c .if2 .taken)
+    entry-past (g .s .now) (g .index) _ _ (sym (o .open .ensures) ∙ ap answerOfOpened (a .place .given .1)) (c .before .if1 .left) (c .if2 .taken)
 
 cast-end : tie.Need-cast-end
 cast-end c = search needs
@@ -52,14 +52,14 @@ slice-aggregate-raw-entry : tie.Need-slice-aggregate-raw-entry
 slice-aggregate-raw-entry c =
     let a = c .before .before .before .before in
     let o = a .before .before in
-    let w = opened-at (o .before .before .args .s .now) _ _ (sym (o .open .ensures) ∙ ap opened (a .place .given .1)) in
+    let w = opened-at (o .before .before .args .s .now) _ _ (sym (o .open .ensures) ∙ ap answerOfOpened (a .place .given .1)) in
     simp length-take (omega arith)
 
 raw-entry-requires : tie.Need-raw-entry-requires
 raw-entry-requires c κs =
     let a = c .before .before .before .before in
     let o = a .before .before in
-    let w = opened-at (o .before .before .args .s .now) _ _ (sym (o .open .ensures) ∙ ap opened (a .place .given .1)) in
+    let w = opened-at (o .before .before .args .s .now) _ _ (sym (o .open .ensures) ∙ ap answerOfOpened (a .place .given .1)) in
     simp length-take (omega arith)
 
 returns-3 : tie.Need-returns-3
@@ -68,14 +68,14 @@ returns-3 c =
     let a = c .before in
     let o = a .before .before in
     let g = o .before .before .args in
-    after-refused _ (g .s .now) _ (sym (o .open .ensures) ∙ ap opened (a .n .given .1))
+    after-refused _ (g .s .now) _ (sym (o .open .ensures) ∙ ap answerOfOpened (a .n .given .1))
 
 returns-4 : tie.Need-returns-4
 returns-4 c =
     let a = c .before .before .before .before .before in
     let o = a .before .before in
     let g = o .before .before .args in
-    ap ok (c .raw-entry .ensures) ∙ entry-there (g .s .now) (g .index) _ _ (sym (o .open .ensures) ∙ ap opened (a .place .given .1)) (omega arith) (omega arith)
+    ap ok (c .raw-entry .ensures) ∙ entry-there (g .s .now) (g .index) _ _ (sym (o .open .ensures) ∙ ap answerOfOpened (a .place .given .1)) (omega arith) (omega arith)
 
 pub entry-spec : {M : Type 1} → statement M
 entry-spec =

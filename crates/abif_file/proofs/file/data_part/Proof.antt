@@ -11,7 +11,8 @@ use denote.Triple.Spec.{tripleOf}
 use denote.Triple.Table.{entered, cited}
 use Rattle.reading.specs.Check.{answer, mapAnswer}
 use Rattle.reading.specs.Part.{shown, handedBack}
-use Rattle.abif.specs.Lookup.{lookingUp, dataSpan}
+use Rattle.abif.specs.Lookup.{lookingUp}
+use Rattle.reading.specs.Item.{dataSpan}
 use Rattle.abif_file.specs.Opened.{ofOpened}
 use Rattle.abif_file.proofs.file.Tagged.{TaggedCall, Called, tagged-meets}
 use Rattle.abif_file.proofs.opened.data_part.Symbol as step

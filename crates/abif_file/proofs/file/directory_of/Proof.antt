@@ -1,5 +1,5 @@
 use mathlib.Core.Path.{sym, _∙_, ap}
-use Rattle.abif.specs.Directory.{opened}
+use Rattle.abif.specs.Answers.{answerOfOpened}
 use borrow.Author.Needs.{needs}
 use Rattle.abif_file.proofs.file.directory_of.Statement.{statement}
 use Rattle.abif_file.proofs.file.directory_of.Tie as tie
@@ -21,12 +21,12 @@ cast-t7 c = search needs
 
 returns : tie.Need-returns
 returns c = let o = c .before .before in
-    let e = sym (o .«open» .ensures) ∙ ap opened (c .enum-told .given .1) in
+    let e = sym (o .«open» .ensures) ∙ ap answerOfOpened (c .enum-told .given .1) in
     (rw e, rw e)
 
 returns-2 : tie.Need-returns-2
 returns-2 c = let o = c .before .before .before in
-    let e = sym (o .«open» .ensures) ∙ ap opened (c .before .place .given .1) in
+    let e = sym (o .«open» .ensures) ∙ ap answerOfOpened (c .before .place .given .1) in
     (rw e, rw e)
 
 pub directory-of-spec : {M : Type 1} → statement M

@@ -7,9 +7,10 @@ use denote.Signature.{plain}
 use denote.Triple.Spec.{tripleOf}
 use denote.Triple.Table.{entered, cited}
 use Rattle.reading.specs.Check.{answer}
-use Rattle.abif.specs.Lookup.{lookingUp, found}
-use Rattle.abif.proofs.lookup.Found as S
-use Rattle.abif.proofs.lookup.Found.Laws as S′
+use Rattle.abif.specs.Lookup.{lookingUp}
+use Rattle.reading.specs.Answers.{answerOfFound}
+use Rattle.reading.proofs.item.Found as S
+use Rattle.reading.proofs.item.Found.Laws as S′
 use Rattle.abif_file.specs.Opened.{ofOpened}
 use Rattle.abif_file.proofs.file.Tagged.{TaggedCall, Called, tagged-meets}
 use Rattle.abif_file.proofs.opened.lookup.Symbol as step
@@ -24,7 +25,7 @@ call = record {
   callee = step.name;
   result = plain (λ _. S.the-row);
   mir = S′.mir;
-  Says = λ _ s p n a b r. found r ≡ answer (ofOpened p n (lookingUp a b)) (now s);
+  Says = λ _ s p n a b r. answerOfFound r ≡ answer (ofOpened p n (lookingUp a b)) (now s);
 }
 
 pub lookup-spec : {M : Type 1} → stated.statement M

@@ -37,10 +37,11 @@ use denote.Triple.Walked.{says, Stays, stay-none, walkOf, goes-none, Walks, ends
 use denote.Exit.{yes}
 use denote.Triple.Clauses.{ensured, lasts}
 use Rattle.reading.specs.Check.{answer}
-use Rattle.abif.specs.declared.element.Element.{Element}
-use Rattle.abif.specs.Element.{elementReading, element}
-use Rattle.abif.proofs.element.Element as S
-use Rattle.abif.proofs.element.Element.Laws as S′
+use Rattle.abif_elements.specs.declared.element.Element.{Element}
+use Rattle.abif_elements.specs.Element.{elementReading}
+use Rattle.abif_elements.specs.Answers.{answerOfElement}
+use Rattle.abif_elements.proofs.element.Element as S
+use Rattle.abif_elements.proofs.element.Element.Laws as S′
 use Rattle.abif_file.specs.declared.file.AbifFile.{AbifFile}
 use Rattle.abif_file.specs.Opened.{ofOpened}
 use Rattle.abif_file.proofs.file.Apart.{File, bytesVal, FileOwn, BytesOwn, bytes-out}
@@ -68,7 +69,7 @@ module _ {M : Type 1} (𝓤 : URA M) (H : Heap 𝓤) (A : Atoms 𝓤) (W : Given
   mach = T′.lowered d
 
   abbrev Told : Element → Type 0
-  Told r = element r ≡ answer (ofOpened (d .place) (d .count) (elementReading n m i)) (now (d .bytes))
+  Told r = answerOfElement r ≡ answer (ofOpened (d .place) (d .count) (elementReading n m i)) (now (d .bytes))
 
   abbrev Arg : Type 0
   Arg = AbifFile × (ℕ × (ℕ × (ℕ × Unit {0})))

@@ -7,9 +7,10 @@ use denote.Signature.{plain}
 use denote.Triple.Spec.{tripleOf}
 use denote.Triple.Table.{entered, cited}
 use Rattle.reading.specs.Check.{answer}
-use Rattle.abif.specs.Text.{textReading, text}
-use Rattle.abif.proofs.text.Text as S
-use Rattle.abif.proofs.text.Text.Laws as S′
+use Rattle.abif_elements.specs.Text.{textReading}
+use Rattle.abif_elements.specs.Answers.{answerOfText}
+use Rattle.abif_elements.proofs.text.Text as S
+use Rattle.abif_elements.proofs.text.Text.Laws as S′
 use Rattle.abif_file.specs.Opened.{ofOpened}
 use Rattle.abif_file.proofs.file.Tagged.{TaggedCall, Called, tagged-meets}
 use Rattle.abif_file.proofs.opened.read_text.Symbol as step
@@ -24,7 +25,7 @@ call = record {
   callee = step.name;
   result = plain (λ _. S.the-row);
   mir = S′.mir;
-  Says = λ _ s p n a b r. text r ≡ answer (ofOpened p n (textReading a b)) (now s);
+  Says = λ _ s p n a b r. answerOfText r ≡ answer (ofOpened p n (textReading a b)) (now s);
 }
 
 pub read-text-spec : {M : Type 1} → stated.statement M

@@ -11,7 +11,7 @@ use denote.Triple.Spec.{tripleOf}
 use denote.Triple.Table.{entered, cited}
 use Rattle.reading.specs.Check.{answer}
 use Rattle.reading.specs.Part.{shown, handedBack}
-use Rattle.abif.specs.Text.{textReading}
+use Rattle.abif_elements.specs.Text.{textReading}
 use Rattle.abif_file.specs.Opened.{ofOpened}
 use Rattle.abif_file.proofs.file.Tagged.{TaggedCall, Called, tagged-meets}
 use Rattle.abif_file.proofs.opened.text_part.Symbol as step

@@ -50,7 +50,7 @@ use denote.Signature.{plain}
 use Rattle.reading.specs.Number.{be}
 use Rattle.abif_file.specs.declared.entry.RawEntry.{RawEntry}
 use Rattle.abif_file.specs.Entry.{rawEntry}
-use Rattle.abif_file.specs.List.{Present}
+use Rattle.abif_file.specs.Private.{EntriesPresent}
 use Rattle.abif_file.proofs.entry.RawEntry as T″
 use Rattle.abif_file.proofs.entry.RawEntry.Laws as T′
 use Rattle.abif_file.proofs.list.Laws.{written, length-written, all-written}
@@ -185,7 +185,7 @@ module _ {M : Type 1} (𝓤 : URA M) (H : Heap 𝓤) (A : Atoms 𝓤) (W : Given
     said : (r : RawEntry) → ent 𝓤 (ensured 𝓤 H A one.ended (one.clauses 𝓤 H A mem run) (κ, tt) args tt r) (fact 𝓤 (r ≡ rawEntry (now s) (place + 28 * i)))
     said r = exE 𝓤 _ (λ ws. snd∗ 𝓤 (sem 𝓤 H A (lasts one.ended (κ, tt) args ws)) (fact 𝓤 (r ≡ rawEntry (now s) (place + 28 * i))))
 
-  module _ (𝓣 : Tables 𝓤 H) (known : Triple 𝓤 (𝓣 .C #abif-file·entry·raw-entry) (One 𝓤 H A mem run)) (room : Room E (length xs)) (small : n ≤ length xs) (there : Present (now s) n) (place-fits : place < 2 ^ 32) (l₀ l₁ l₂ l₃ l₄ l₅ l₆ l₇ l₈ l₉ : ℕ) where
+  module _ (𝓣 : Tables 𝓤 H) (known : Triple 𝓤 (𝓣 .C #abif-file·entry·raw-entry) (One 𝓤 H A mem run)) (room : Room E (length xs)) (small : n ≤ length xs) (there : EntriesPresent (now s) n) (place-fits : place < 2 ^ 32) (l₀ l₁ l₂ l₃ l₄ l₅ l₆ l₇ l₈ l₉ : ℕ) where
     abbrev C : Calls 𝓤 H
     C = 𝓣 .C
 
@@ -309,7 +309,7 @@ module _ {M : Type 1} (𝓤 : URA M) (H : Heap 𝓤) (A : Atoms 𝓤) (W : Given
         (loop-rule 𝓤 H (W .laws) 𝓣 _<_ (Nat·lt-wfRel .wf) En body.turn-1 Left Inv turns n)
 
   -- the MIR, up to the loop
-  walk : (𝓣 : Tables 𝓤 H) → Triple 𝓤 (𝓣 .C #reading·number·be32) (Head 𝓤 H A mem run) → Triple 𝓤 (𝓣 .C #abif-file·entry·raw-entry) (One 𝓤 H A mem run) → Is (ShrSlice (named 0) κ u8) s (v ∷ []) → Room E (length xs) → n ≤ length xs → Present (now s) n
+  walk : (𝓣 : Tables 𝓤 H) → Triple 𝓤 (𝓣 .C #reading·number·be32) (Head 𝓤 H A mem run) → Triple 𝓤 (𝓣 .C #abif-file·entry·raw-entry) (One 𝓤 H A mem run) → Is (ShrSlice (named 0) κ u8) s (v ∷ []) → Room E (length xs) → n ≤ length xs → EntriesPresent (now s) n
       → ent 𝓤 (onEntry 𝓤 H A fill.signature (κ, (κ′, tt)) (q, (q′, tt)) a vals) (WpFn 𝓤 H (𝓣 .C) (𝓣 .Λ) code.function (v ∷ w ∷ vint w64 n ∷ []) Post)
   walk 𝓣 known-head known p room small there =
       qed W ((‵ (flft κ q) ⊛ (‵ (flft κ′ q′) ⊛ ‵ ftrue)) ∷ ‵ (owns (ShrSlice (named 0) κ u8 ∷ MutSlice (named 1) κ′ E ∷ usize ∷ []) a vals) ∷ []) ∵ enter ! (𝓣 .C) (𝓣 .Λ) code.function (v ∷ w ∷ vint w64 n ∷ []) _ $
@@ -335,7 +335,7 @@ module _ {M : Type 1} (𝓤 : URA M) (H : Heap 𝓤) (A : Atoms 𝓤) (W : Given
   fill-walks : Walks 𝓤 H A fill.ended stayed (WpFn 𝓤 H (𝓣 .C) (𝓣 .Λ) code.function) (fill.clauses 𝓤 H A mem run)
   fill-walks = walked 𝓤 H A fill.ended stayed (fill.clauses 𝓤 H A mem run) (WpFn 𝓤 H (𝓣 .C) (𝓣 .Λ) code.function)
       (λ κs. (slice-vals, (slice-vals, (uint-vals w64, tt)))) (λ κs. (shr-slice-tells (named 0) (κs .0) u8, (mut-slice-tells (named 1) (κs .1 .0) E, (uint-tells w64, tt))))
-      (λ κs qs bounds a g are. needs 𝓤 ((a .1 .1 .0 ≤ length (a .1 .0 .now)) × Present (now (a .0)) (a .1 .1 .0)) _ (λ h.
+      (λ κs qs bounds a g are. needs 𝓤 ((a .1 .1 .0 ≤ length (a .1 .0 .now)) × EntriesPresent (now (a .0)) (a .1 .1 .0)) _ (λ h.
       walk 𝓤 H A W mem run (κs .0) (κs .1 .0) (qs .0) (qs .1 .0) (a .0) (a .1 .0 .ptr .0) (a .1 .0 .ptr .1) (a .1 .0 .name) (a .1 .0 .now) (a .1 .1 .0) (are .1 .1 .0 .1) 𝓣 known-head known (are .0) (are .1 .0 .0 .1) (h .0) (h .1)))
 
   fill-meets : Meets 𝓤 H A fill.signature (WpFn 𝓤 H (𝓣 .C) (𝓣 .Λ) code.function) (fill.spec 𝓤 H A mem run)

@@ -2,7 +2,7 @@ use mathlib.Core.Path.{_∙_, sym, ap}
 use lib.ListN.{length}
 use borrow.Author.Needs.{needs}
 use Rattle.reading.specs.Check.{mapAnswer}
-use Rattle.abif.specs.Directory.{opened}
+use Rattle.abif.specs.Answers.{answerOfOpened}
 use Rattle.abif.proofs.directory.Laws.{after-refused}
 use Rattle.abif_file.specs.List.{listing}
 use Rattle.abif_file.proofs.list.Laws.{list-over, list-all}
@@ -26,7 +26,7 @@ returns c =
     let a = c .before .before in
     let o = a .before .before in
     let g = o .before .before .args in
-    list-over (g .room) (g .s .now) _ _ (sym (o .open .ensures) ∙ ap opened (a .place .given .1)) (c .if1 .taken)
+    list-over (g .room) (g .s .now) _ _ (sym (o .open .ensures) ∙ ap answerOfOpened (a .place .given .1)) (c .if1 .taken)
 
 cast-t10 : tie.Need-cast-t10
 cast-t10 c = search needs
@@ -37,14 +37,14 @@ returns-2 c =
     let a = c .before in
     let o = a .before .before in
     let g = o .before .before .args in
-    ap (mapAnswer length) (after-refused _ (g .s .now) _ (sym (o .open .ensures) ∙ ap opened (a .n .given .1)))
+    ap (mapAnswer length) (after-refused _ (g .s .now) _ (sym (o .open .ensures) ∙ ap answerOfOpened (a .n .given .1)))
 
 returns-3 : tie.Need-returns-3
 returns-3 c =
     let a = c .before .before in
     let o = a .before .before in
     let g = o .before .before .args in
-    list-all (g .room) (g .s .now) _ _ (sym (o .open .ensures) ∙ ap opened (a .place .given .1)) (c .if1 .left)
+    list-all (g .room) (g .s .now) _ _ (sym (o .open .ensures) ∙ ap answerOfOpened (a .place .given .1)) (c .if1 .left)
 
 pub list-answer-spec : {M : Type 1} → statement M
 list-answer-spec =

@@ -4,8 +4,9 @@ use Rattle.reading.specs.Part.{shown, handedBack}
 use Rattle.reading.specs.Check.{Answer, mapAnswer}
 use Rattle.reading.proofs.Parts.{part-there}
 use Rattle.abif_file.proofs.opened.Laws.{later-refused, later-same}
-use Rattle.abif.specs.declared.lookup.ItemData.{ItemData}
-use Rattle.abif.specs.Lookup.{lookingUp, dataSpan}
+use Rattle.reading.specs.declared.item.ItemData.{ItemData}
+use Rattle.abif.specs.Lookup.{lookingUp}
+use Rattle.reading.specs.Item.{dataSpan}
 use borrow.Author.Needs.{needs}
 use Rattle.abif_file.proofs.opened.data_part.Statement.{statement}
 use Rattle.abif_file.proofs.opened.data_part.Tie as tie

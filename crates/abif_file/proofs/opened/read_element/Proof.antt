@@ -1,6 +1,6 @@
 use mathlib.Core.Path.{_∙_}
 use Rattle.abif_file.proofs.opened.Laws.{later-refused, later-same}
-use Rattle.abif.specs.Element.{elementReading}
+use Rattle.abif_elements.specs.Element.{elementReading}
 use borrow.Author.Needs.{needs}
 use Rattle.abif_file.proofs.opened.read_element.Statement.{statement}
 use Rattle.abif_file.proofs.opened.read_element.Tie as tie

@@ -1,6 +1,6 @@
 use mathlib.Core.Path.{_∙_}
 use Rattle.abif_file.proofs.opened.Laws.{later-refused, later-same}
-use Rattle.abif.specs.Text.{textReading}
+use Rattle.abif_elements.specs.Text.{textReading}
 use borrow.Author.Needs.{needs}
 use Rattle.abif_file.proofs.opened.read_text.Statement.{statement}
 use Rattle.abif_file.proofs.opened.read_text.Tie as tie

@@ -4,7 +4,7 @@ use Rattle.reading.specs.Part.{Span, shown, handedBack}
 use Rattle.reading.specs.Check.{Answer}
 use Rattle.reading.proofs.Parts.{part-there}
 use Rattle.abif_file.proofs.opened.Laws.{later-refused, later-same}
-use Rattle.abif.specs.Text.{textReading}
+use Rattle.abif_elements.specs.Text.{textReading}
 use borrow.Author.Needs.{needs}
 use Rattle.abif_file.proofs.opened.text_part.Statement.{statement}
 use Rattle.abif_file.proofs.opened.text_part.Tie as tie

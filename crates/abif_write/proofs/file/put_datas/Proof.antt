@@ -4,14 +4,14 @@ use native.Mathlib.Omega.{arith}
 use lib.ListN.{take}
 use borrow.Author.Needs.{needs}
 use Rattle.writing.proofs.Begun.{Begun, begun-start}
-use Rattle.abif_write.specs.Item.{given}
-use Rattle.abif_write.specs.File.{datas}
+use Rattle.abif_write.specs.Item.{records, itemAt}
+use Rattle.abif_write.specs.File.{allData}
 use Rattle.abif_write.proofs.file.Laws.{item-present, datas-room, datas-next, datas-end}
 use Rattle.abif_write.proofs.file.put_datas.Statement.{statement}
 use Rattle.abif_write.proofs.file.put_datas.Tie as tie
 
 abbrev Inv-loop : tie.InvT-loop
-Inv-loop names numbers types counts starts lengths buffer out₀ n at₀ i₀ out at i = Begun out₀ out at (λ m. datas (given names numbers types counts starts lengths) buffer m i) n i (take 128 out₀ ++ datas (given names numbers types counts starts lengths) buffer n 0)
+Inv-loop names numbers types counts starts lengths buffer out₀ n at₀ i₀ out at i = Begun out₀ out at (λ m. allData (itemAt (records names numbers types counts starts lengths)) buffer m i) n i (take 128 out₀ ++ allData (itemAt (records names numbers types counts starts lengths)) buffer n 0)
 
 abbrev μ-loop : tie.MeasureT-loop
 μ-loop names numbers types counts starts lengths buffer out₀ n at₀ i₀ out at i = n - i
@@ -20,24 +20,24 @@ loop-holds : tie.Need-loop-holds Inv-loop μ-loop
 loop-holds c = begun-start _ 128 _ _ (omega arith)
 
 item-at-requires : tie.Need-item-at-requires Inv-loop μ-loop
-item-at-requires c κs = (c .before .before .before .before .before .before .before .before .pre .0 .even, c .loop-test .taken)
+item-at-requires c κs = (c .before .before .before .before .before .before .before .before .pre .0 .same-lengths, c .loop-test .taken)
 
 put-data-requires : tie.Need-put-data-requires Inv-loop μ-loop
 put-data-requires c κs =
     let s = c .before .before .before .before .before .before .before .before .before .before in
     let g = s .args in
     let l = c .before .before .before .loop in
-    (item-present (given (g .names .now) (g .numbers .now) (g .types .now) (g .counts .now) (g .starts .now) (g .lengths .now)) _ (l .i) _ (c .before .item-at .ensures) (s .pre .0 .sound (l .i) (c .before .before .loop-test .taken)) .0, l .inv .inside)
+    (item-present (itemAt (records (g .names .now) (g .numbers .now) (g .types .now) (g .counts .now) (g .starts .now) (g .lengths .now))) _ (l .i) _ (c .before .item-at .ensures) (s .pre .0 .sound (l .i) (c .before .before .loop-test .taken)) .0, l .inv .inside)
 
-apart-of-requires : tie.Need-apart-of-requires Inv-loop μ-loop
-apart-of-requires c κs = search needs
+size-outside-requires : tie.Need-size-outside-requires Inv-loop μ-loop
+size-outside-requires c κs = search needs
 
 add-at : tie.Need-add-at Inv-loop μ-loop
 add-at c =
     let s = c .before .before .before .before .before .before .before .before .before .before .before .before .before .before in
     let g = s .args in
     let l = c .before .before .before .before .before .before .before .loop in
-    let r = datas-room (given (g .names .now) (g .numbers .now) (g .types .now) (g .counts .now) (g .starts .now) (g .lengths .now)) (g .buffer .now) _ _ _ _ _ (l .inv) (c .before .before .before .before .before .before .loop-test .taken) (s .pre .1) _ (c .before .before .before .before .before .item-at .ensures) (s .pre .0 .sound (l .i) (c .before .before .before .before .before .before .loop-test .taken)) _ (c .apart-of .ensures) in
+    let r = datas-room (itemAt (records (g .names .now) (g .numbers .now) (g .types .now) (g .counts .now) (g .starts .now) (g .lengths .now))) (g .buffer .now) _ _ _ _ _ (l .inv) (c .before .before .before .before .before .before .loop-test .taken) (s .pre .1) _ (c .before .before .before .before .before .item-at .ensures) (s .pre .0 .sound (l .i) (c .before .before .before .before .before .before .loop-test .taken)) _ (c .size-outside .ensures) in
     let e = l .inv .same in
     omega arith
 
@@ -52,7 +52,7 @@ loop-again c =
     let s = c .before .before .before .before .before .before .before .before .before .before .before .before .before .before in
     let g = s .args in
     let l = c .before .before .before .before .before .before .before .loop in
-    datas-next (given (g .names .now) (g .numbers .now) (g .types .now) (g .counts .now) (g .starts .now) (g .lengths .now)) (g .buffer .now) _ _ _ _ _ (l .inv) (c .before .before .before .before .before .before .loop-test .taken) (s .pre .1) _ (c .before .before .before .before .before .item-at .ensures) (s .pre .0 .sound (l .i) (c .before .before .before .before .before .before .loop-test .taken)) _ (c .apart-of .ensures) _ (c .before .before .before .put-data .ensures)
+    datas-next (itemAt (records (g .names .now) (g .numbers .now) (g .types .now) (g .counts .now) (g .starts .now) (g .lengths .now))) (g .buffer .now) _ _ _ _ _ (l .inv) (c .before .before .before .before .before .before .loop-test .taken) (s .pre .1) _ (c .before .before .before .before .before .item-at .ensures) (s .pre .0 .sound (l .i) (c .before .before .before .before .before .before .loop-test .taken)) _ (c .size-outside .ensures) _ (c .before .before .before .put-data .ensures)
 
 same-length : tie.Need-same-length Inv-loop μ-loop
 same-length c = c .before .loop .inv .same
@@ -62,7 +62,7 @@ returns c =
     let s = c .before .before .before .before .before .before .before .before in
     let g = s .args in
     let l = c .before .loop in
-    datas-end (given (g .names .now) (g .numbers .now) (g .types .now) (g .counts .now) (g .starts .now) (g .lengths .now)) (g .buffer .now) _ _ _ _ (l .i) (l .inv) (c .loop-test .left) (s .pre .1)
+    datas-end (itemAt (records (g .names .now) (g .numbers .now) (g .types .now) (g .counts .now) (g .starts .now) (g .lengths .now))) (g .buffer .now) _ _ _ _ (l .i) (l .inv) (c .loop-test .left) (s .pre .1)
 
 pub put-datas-spec : {M : Type 1} → statement M
 put-datas-spec =
@@ -73,7 +73,7 @@ put-datas-spec =
     loop-holds
     item-at-requires
     put-data-requires
-    apart-of-requires
+    size-outside-requires
     add-at
     add-i
     loop-less

@@ -1,7 +1,7 @@
 use native.Mathlib.Omega.{arith}
 use lib.ListN.{length}
 use borrow.Author.Needs.{needs}
-use Rattle.abif_write.specs.Item.{given}
+use Rattle.abif_write.specs.Item.{records, itemAt}
 use Rattle.abif_write.proofs.file.Laws.{datas-fit, file-put}
 use borrow.Author.Needs.{needs}
 use Rattle.abif_write.proofs.file.put_file.Statement.{statement}
@@ -21,7 +21,7 @@ put-datas-requires c κs =
     let s = c .before .before .before .before .before .before .before .before .before .before .before in
     let g = s .args in
     let l = c .before .before .before .put-header .kept in
-    (s .pre .0, datas-fit (given (g .names .now) (g .numbers .now) (g .types .now) (g .counts .now) (g .starts .now) (g .lengths .now)) (g .buffer .now) (length (g .names .now)) (g .place) _ (s .pre .0 .sound) (s .pre .1 .1) (omega (arith, s .pre .1)))
+    (s .pre .0, datas-fit (itemAt (records (g .names .now) (g .numbers .now) (g .types .now) (g .counts .now) (g .starts .now) (g .lengths .now))) (g .buffer .now) (length (g .names .now)) (g .place) _ (s .pre .0 .sound) (s .pre .1 .1) (omega (arith, s .pre .1)))
 
 put-entries-requires : tie.Need-put-entries-requires
 put-entries-requires c κs =
@@ -38,7 +38,7 @@ returns : tie.Need-returns
 returns c =
     let s = c .before .before .before .before .before .before .before .before .before .before .before .before .before .before .before .before .before .before in
     let g = s .args in
-    file-put (given (g .names .now) (g .numbers .now) (g .types .now) (g .counts .now) (g .starts .now) (g .lengths .now)) (g .buffer .now) _ _ _ _ (g .place) (s .pre .0 .sound) (s .pre .1 .1) (s .pre .1 .3) (c .before .before .before .before .before .before .before .before .before .before .put-header .ensures) (c .before .before .before .before .before .before .put-datas .ensures) (c .before .before .put-entries .ensures)
+    file-put (itemAt (records (g .names .now) (g .numbers .now) (g .types .now) (g .counts .now) (g .starts .now) (g .lengths .now))) (g .buffer .now) _ _ _ _ (g .place) (s .pre .0 .sound) (s .pre .1 .1) (s .pre .1 .3) (c .before .before .before .before .before .before .before .before .before .before .put-header .ensures) (c .before .before .before .before .before .before .put-datas .ensures) (c .before .before .put-entries .ensures)
 
 pub put-file-spec : {M : Type 1} → statement M
 put-file-spec =

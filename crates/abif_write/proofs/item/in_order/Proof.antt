@@ -1,5 +1,5 @@
 use borrow.Author.Needs.{needs}
-use Rattle.abif_write.specs.Item.{given}
+use Rattle.abif_write.specs.Item.{records, itemAt}
 use Rattle.abif_write.proofs.item.Laws.{order-at}
 use borrow.Author.Needs.{needs}
 use Rattle.abif_write.proofs.item.in_order.Statement.{statement}
@@ -23,7 +23,7 @@ tag-below-requires c κs = search needs
 returns-2 : tie.Need-returns-2
 returns-2 c =
     let g = c .before .before .before .before .before .before .before .before .args in
-    order-at (given (g .names .now) (g .numbers .now) (g .types .now) (g .counts .now) (g .starts .now) (g .lengths .now)) _ _ _ _ (c .before .before .before .if1 .left) (c .before .before .item-at .ensures) (c .before .item-at2 .ensures) (c .tag-below .ensures)
+    order-at (itemAt (records (g .names .now) (g .numbers .now) (g .types .now) (g .counts .now) (g .starts .now) (g .lengths .now))) _ _ _ _ (c .before .before .before .if1 .left) (c .before .before .item-at .ensures) (c .before .item-at2 .ensures) (c .tag-below .ensures)
 
 pub in-order-spec : {M : Type 1} → statement M
 in-order-spec =

@@ -5,7 +5,7 @@ use mir.Syntax.{w16, w32}
 use mir.Val.{toZ, ofZ}
 use borrow.Author.Needs.{needs}
 use Rattle.reading.specs.Number.{bits}
-use Rattle.abif_write.specs.Item.{given}
+use Rattle.abif_write.specs.Item.{itemAt}
 use borrow.Author.Needs.{needs}
 use Rattle.abif_write.proofs.item.item_at.Statement.{statement}
 use Rattle.abif_write.proofs.item.item_at.Tie as tie
@@ -50,7 +50,7 @@ shared-slice-read-t27 : tie.Need-shared-slice-read-t27
 shared-slice-read-t27 c = search needs
 
 returns : tie.Need-returns
-unfolding given
+unfolding itemAt
 returns c =
     let g = c .before .before .before .before .before .before .before .before .before .before .before .args in
     let z = getD (g .numbers .now) (g .i) (pos 0) in

@@ -1,6 +1,5 @@
 use native.Mathlib.Omega.{arith}
-use borrow.Author.Needs.{needs}
-use Rattle.abif_write.proofs.item.Laws.{denied, granted, item-outside, item-type, item-count, item-contents, contents-part, count-few}
+use Rattle.abif_write.proofs.item.Laws.{denied, granted, item-outside, item-type, item-count, item-bad, item-good, count-few}
 use borrow.Author.Needs.{needs}
 use Rattle.abif_write.proofs.item.item_tests.Statement.{statement}
 use Rattle.abif_write.proofs.item.item_tests.Tie as tie
@@ -53,17 +52,19 @@ contents-hold-requires c κs = count-few (c .before .before .before .before .bef
 
 returns-5 : tie.Need-returns-5
 returns-5 c =
-    let g = c .before .before .before .before .before .before .before .before .before .before .before .before .before .before .before .args in
-    let y = c .before .contents-hold .result in
-    let e = contents-part (g .buffer .now) (g .d) y (c .before .contents-hold .ensures) in
-    rw (denied y (c .if4 .taken)) at (item-contents (g .buffer .now) (g .d) (omega arith) _ (c .before .before .before .before .before .before .before .before .is-taken .ensures) (granted _ (c .before .before .before .before .before .before .before .if3 .left)) _ (c .before .before .before .before .before .before .count-tests .ensures) (c .before .before .before .before .enum-told .given .1) y e)
+    let a = c .before in
+    let n = a .before .before .before in
+    let o = n .before .before in
+    let g = o .before .before .before .before .before .before .before .before .before .args in
+    item-bad (g .buffer .now) (g .d) (omega arith) _ (o .before .before .is-taken .ensures) (granted _ (o .before .if3 .left)) _ (o .count-tests .ensures) (n .enum-told .given .1) _ (a .contents-hold .ensures) (denied _ (c .if4 .taken))
 
 returns-6 : tie.Need-returns-6
 returns-6 c =
-    let g = c .before .before .before .before .before .before .before .before .before .before .before .before .before .before .before .args in
-    let y = c .before .contents-hold .result in
-    let e = contents-part (g .buffer .now) (g .d) y (c .before .contents-hold .ensures) in
-    rw (granted y (c .if4 .left)) at (item-contents (g .buffer .now) (g .d) (omega arith) _ (c .before .before .before .before .before .before .before .before .is-taken .ensures) (granted _ (c .before .before .before .before .before .before .before .if3 .left)) _ (c .before .before .before .before .before .before .count-tests .ensures) (c .before .before .before .before .enum-told .given .1) y e)
+    let a = c .before in
+    let n = a .before .before .before in
+    let o = n .before .before in
+    let g = o .before .before .before .before .before .before .before .before .before .args in
+    item-good (g .buffer .now) (g .d) (omega arith) _ (o .before .before .is-taken .ensures) (granted _ (o .before .if3 .left)) _ (o .count-tests .ensures) (n .enum-told .given .1) _ (a .contents-hold .ensures) (granted _ (c .if4 .left))
 
 pub item-tests-spec : {M : Type 1} → statement M
 item-tests-spec =

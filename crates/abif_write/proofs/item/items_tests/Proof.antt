@@ -5,13 +5,13 @@ use native.Mathlib.Omega.{arith}
 use borrow.Author.Needs.{needs}
 use Rattle.reading.specs.Check.{answer}
 use Rattle.reading.proofs.Loop.{Left, left-start, left-next, left-stop, left-end}
-use Rattle.abif_write.specs.Item.{given, itemsCheck}
+use Rattle.abif_write.specs.Item.{records, itemAt, itemsCheck}
 use Rattle.abif_write.proofs.item.Laws.{denied, granted, items-stop, items-order, items-next, items-end}
 use Rattle.abif_write.proofs.item.items_tests.Statement.{statement}
 use Rattle.abif_write.proofs.item.items_tests.Tie as tie
 
 abbrev Inv-loop : tie.InvT-loop
-Inv-loop names numbers types counts starts lengths buffer n i₀ i = (i ≤ n) × Left (λ m. answer (itemsCheck (given names numbers types counts starts lengths) buffer m i) []) n i (answer (itemsCheck (given names numbers types counts starts lengths) buffer n 0) [])
+Inv-loop names numbers types counts starts lengths buffer n i₀ i = (i ≤ n) × Left (λ m. answer (itemsCheck (itemAt (records names numbers types counts starts lengths)) buffer m i) []) n i (answer (itemsCheck (itemAt (records names numbers types counts starts lengths)) buffer n 0) [])
 
 abbrev μ-loop : tie.MeasureT-loop
 μ-loop names numbers types counts starts lengths buffer n i₀ i = n - i
@@ -32,7 +32,7 @@ returns : tie.Need-returns Inv-loop μ-loop
 returns c =
     let g = c .before .before .before .before .before .before .before .before .before .before .before .before .args in
     let h = c .before .before .before .before .before .before .loop in
-    left-stop _ _ _ _ (h .inv .1) (omega arith) _ (items-stop (given (g .names .now) (g .numbers .now) (g .types .now) (g .counts .now) (g .starts .now) (g .lengths .now)) (g .buffer .now) (h .i) _ (c .before .before .before .before .item-at .ensures) _ (c .before .before .before .item-tests .ensures) _ (c .before .e .given .1))
+    left-stop _ _ _ _ (h .inv .1) (omega arith) _ (items-stop (itemAt (records (g .names .now) (g .numbers .now) (g .types .now) (g .counts .now) (g .starts .now) (g .lengths .now))) (g .buffer .now) (h .i) _ (c .before .before .before .before .item-at .ensures) _ (c .before .before .before .item-tests .ensures) _ (c .before .e .given .1))
 
 enum-told : tie.Need-enum-told Inv-loop μ-loop
 enum-told c = search needs
@@ -44,7 +44,7 @@ returns-2 : tie.Need-returns-2 Inv-loop μ-loop
 returns-2 c =
     let g = c .before .before .before .before .before .before .before .before .before .before .before .before .before .args in
     let h = c .before .before .before .before .before .before .before .loop in
-    left-stop _ _ _ _ (h .inv .1) (omega arith) _ (items-order (given (g .names .now) (g .numbers .now) (g .types .now) (g .counts .now) (g .starts .now) (g .lengths .now)) (g .buffer .now) (h .i) _ (c .before .before .before .before .before .item-at .ensures) _ (c .before .before .before .before .item-tests .ensures) (c .before .before .enum-told .given .1) _ (c .before .in-order .ensures) (denied _ (c .if1 .taken)))
+    left-stop _ _ _ _ (h .inv .1) (omega arith) _ (items-order (itemAt (records (g .names .now) (g .numbers .now) (g .types .now) (g .counts .now) (g .starts .now) (g .lengths .now))) (g .buffer .now) (h .i) _ (c .before .before .before .before .before .item-at .ensures) _ (c .before .before .before .before .item-tests .ensures) (c .before .before .enum-told .given .1) _ (c .before .in-order .ensures) (denied _ (c .if1 .taken)))
 
 add-i : tie.Need-add-i Inv-loop μ-loop
 add-i c = omega arith
@@ -56,13 +56,13 @@ loop-again : tie.Need-loop-again Inv-loop μ-loop
 loop-again c =
     let g = c .before .before .before .before .before .before .before .before .before .before .before .before .before .args in
     let h = c .before .before .before .before .before .before .before .loop in
-    (omega arith, left-next _ _ _ _ (h .inv .1) _ (items-next (given (g .names .now) (g .numbers .now) (g .types .now) (g .counts .now) (g .starts .now) (g .lengths .now)) (g .buffer .now) (h .i) _ (c .before .before .before .before .before .item-at .ensures) _ (c .before .before .before .before .item-tests .ensures) (c .before .before .enum-told .given .1) _ (c .before .in-order .ensures) (granted _ (c .if1 .left))))
+    (omega arith, left-next _ _ _ _ (h .inv .1) _ (items-next (itemAt (records (g .names .now) (g .numbers .now) (g .types .now) (g .counts .now) (g .starts .now) (g .lengths .now))) (g .buffer .now) (h .i) _ (c .before .before .before .before .before .item-at .ensures) _ (c .before .before .before .before .item-tests .ensures) (c .before .before .enum-told .given .1) _ (c .before .in-order .ensures) (granted _ (c .if1 .left))))
 
 returns-3 : tie.Need-returns-3 Inv-loop μ-loop
 returns-3 c =
     let g = c .before .before .before .before .before .before .before .args in
     let h = c .before .loop in
-    items-end (given (g .names .now) (g .numbers .now) (g .types .now) (g .counts .now) (g .starts .now) (g .lengths .now)) (g .buffer .now) (h .i) ∙ left-end _ _ _ _ (h .inv .1) (omega arith) (omega arith)
+    items-end (itemAt (records (g .names .now) (g .numbers .now) (g .types .now) (g .counts .now) (g .starts .now) (g .lengths .now))) (g .buffer .now) (h .i) ∙ left-end _ _ _ _ (h .inv .1) (omega arith) (omega arith)
 
 pub items-tests-spec : {M : Type 1} → statement M
 items-tests-spec =

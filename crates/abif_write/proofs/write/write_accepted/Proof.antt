@@ -1,7 +1,7 @@
 use native.Mathlib.Omega.{arith}
 use lib.ListN.{length}
 use borrow.Author.Needs.{needs}
-use Rattle.abif_write.specs.Item.{given}
+use Rattle.abif_write.specs.Item.{records, itemAt}
 use Rattle.abif_write.proofs.write.Laws.{file-many, file-over, file-little, file-written}
 use borrow.Author.Needs.{needs}
 use Rattle.abif_write.proofs.write.write_accepted.Statement.{statement}
@@ -11,7 +11,7 @@ returns : tie.Need-returns
 returns c =
     let s = c .before .before .before .before .before .before .before in
     let g = s .args in
-    let r = file-many (given (g .names .now) (g .numbers .now) (g .types .now) (g .counts .now) (g .starts .now) (g .lengths .now)) (g .buffer .now) (length (g .names .now)) (length (g .out .now)) (omega arith) in
+    let r = file-many (itemAt (records (g .names .now) (g .numbers .now) (g .types .now) (g .counts .now) (g .starts .now) (g .lengths .now))) (g .buffer .now) (length (g .names .now)) (length (g .out .now)) (omega arith) in
     (rw r, rw r)
 
 directory-place-requires : tie.Need-directory-place-requires
@@ -27,14 +27,14 @@ returns-2 : tie.Need-returns-2
 returns-2 c =
     let s = c .before .before .before .before .before .before .before .before .before in
     let g = s .args in
-    let r = file-over (given (g .names .now) (g .numbers .now) (g .types .now) (g .counts .now) (g .starts .now) (g .lengths .now)) (g .buffer .now) (length (g .names .now)) (length (g .out .now)) (s .pre .sound) (omega arith) _ (c .before .directory-place .ensures .0) (omega arith) in
+    let r = file-over (itemAt (records (g .names .now) (g .numbers .now) (g .types .now) (g .counts .now) (g .starts .now) (g .lengths .now))) (g .buffer .now) (length (g .names .now)) (length (g .out .now)) (s .pre .sound) (omega arith) _ (c .before .directory-place .ensures .0) (omega arith) in
     (rw r, rw r)
 
 returns-3 : tie.Need-returns-3
 returns-3 c =
     let s = c .before .before .before .before .before .before .before .before .before .before in
     let g = s .args in
-    let r = file-little (given (g .names .now) (g .numbers .now) (g .types .now) (g .counts .now) (g .starts .now) (g .lengths .now)) (g .buffer .now) (length (g .names .now)) (length (g .out .now)) (s .pre .sound) (omega arith) _ (c .before .before .directory-place .ensures .0) (omega arith) (omega arith) in
+    let r = file-little (itemAt (records (g .names .now) (g .numbers .now) (g .types .now) (g .counts .now) (g .starts .now) (g .lengths .now))) (g .buffer .now) (length (g .names .now)) (length (g .out .now)) (s .pre .sound) (omega arith) _ (c .before .before .directory-place .ensures .0) (omega arith) (omega arith) in
     (rw r, rw r)
 
 put-file-requires : tie.Need-put-file-requires
@@ -50,7 +50,7 @@ returns-4 : tie.Need-returns-4
 returns-4 c =
     let s = c .before .before .before .before .before .before .before .before .before .before .before .before .before .before in
     let g = s .args in
-    file-written (given (g .names .now) (g .numbers .now) (g .types .now) (g .counts .now) (g .starts .now) (g .lengths .now)) (g .buffer .now) (g .out .now) _ (length (g .names .now)) _ (s .pre .sound) (omega arith) (c .before .before .before .before .before .before .directory-place .ensures .0) (omega arith) (omega arith) (c .before .before .put-file .ensures)
+    file-written (itemAt (records (g .names .now) (g .numbers .now) (g .types .now) (g .counts .now) (g .starts .now) (g .lengths .now))) (g .buffer .now) (g .out .now) _ (length (g .names .now)) _ (s .pre .sound) (omega arith) (c .before .before .before .before .before .before .directory-place .ensures .0) (omega arith) (omega arith) (c .before .before .put-file .ensures)
 
 pub write-accepted-spec : {M : Type 1} → statement M
 write-accepted-spec =

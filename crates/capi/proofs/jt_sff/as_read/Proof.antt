@@ -5,8 +5,8 @@ use Rattle.capi.proofs.jt_sff.as_read.Tie as tie
 enum-known-f : tie.Need-enum-known-f
 enum-known-f c = search needs
 
-told-read-requires : tie.Need-told-read-requires
-told-read-requires c κs = search needs
+read-struct-requires : tie.Need-read-struct-requires
+read-struct-requires c κs = search needs
 
 enum-known-f-2 : tie.Need-enum-known-f-2
 enum-known-f-2 c = search needs
@@ -15,7 +15,7 @@ refused-read-requires : tie.Need-refused-read-requires
 refused-read-requires c κs = search needs
 
 returns : tie.Need-returns
-returns c = rw (c .before .before .f .given .1) (c .told-read .ensures)
+returns c = rw (c .before .before .f .given .1) (c .read-struct .ensures)
 
 returns-2 : tie.Need-returns-2
 returns-2 c = rw (c .before .before .f2 .given .1) (c .refused-read .ensures)
@@ -25,7 +25,7 @@ as-read-spec =
     tie.close
     (tie.spec
     enum-known-f
-    told-read-requires
+    read-struct-requires
     enum-known-f-2
     refused-read-requires
     returns

@@ -1,14 +1,10 @@
 use borrow.Author.Needs.{needs}
 use Rattle.gtc.proofs.entry.entry_at.Statement.{statement}
 use Rattle.gtc.proofs.entry.entry_at.Tie as tie
-use mathlib.Core.Path.{refl}
 use Rattle.gtc.specs.Entry.{entryOf}
 
-mul-p : tie.Need-mul-p
-mul-p c = search needs
-
-add-p : tie.Need-add-p
-add-p c = search needs
+entry-place-requires : tie.Need-entry-place-requires
+entry-place-requires c κs = search needs
 
 le16-requires : tie.Need-le16-requires
 le16-requires c κs = search needs
@@ -21,7 +17,8 @@ le32-requires c κs = search needs
 
 returns : tie.Need-returns
 unfolding entryOf
-returns c = (cc, refl)
+returns c = (cc, c .before .before .entry-place .ensures)
 
 pub entry-at-spec : {M : Type 1} → statement M
-entry-at-spec = tie.close (tie.spec mul-p add-p le16-requires add-le32 le32-requires returns)
+entry-at-spec =
+    tie.close (tie.spec entry-place-requires le16-requires add-le32 le32-requires returns)

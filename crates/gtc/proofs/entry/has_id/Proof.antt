@@ -1,15 +1,14 @@
-use mathlib.Core.Path.{_∙_}
 use borrow.Author.Needs.{needs}
-use Rattle.reading.proofs.Width.{le-part}
-use Rattle.gtc.specs.Entry.{entryPlace, hasId}
 use Rattle.gtc.proofs.entry.has_id.Statement.{statement}
 use Rattle.gtc.proofs.entry.has_id.Tie as tie
+use mathlib.Core.Path.{_∙_}
+use Rattle.reading.proofs.Width.{le-part}
+use Rattle.gtc.specs.Entry.{hasId}
+use mathlib.Core.Path.{_∙_, ap}
+use Rattle.reading.specs.Number.{le}
 
-mul-start : tie.Need-mul-start
-mul-start c = search needs
-
-add-start : tie.Need-add-start
-add-start c = search needs
+entry-place-requires : tie.Need-entry-place-requires
+entry-place-requires c κs = search needs
 
 add-end : tie.Need-add-end
 add-end c = search needs
@@ -29,16 +28,16 @@ le16-requires c κs = search needs
 returns : tie.Need-returns
 unfolding hasId
 returns c =
-    let g = c .before .before .before .args in
-    let x = c .le16 .ensures ∙ le-part 2 (entryPlace (g .i)) (g .h .now) in
+    let g = c .before .before .before .before .args in
+    let e = c .before .before .entry-place in
+    let x = c .le16 .ensures ∙ le-part 2 (e .result) (g .h .now) ∙ ap (le 2 (g .h .now)) (e .ensures) in
     rw (← x)
 
 pub has-id-spec : {M : Type 1} → statement M
 has-id-spec =
     tie.close
     (tie.spec
-    mul-start
-    add-start
+    entry-place-requires
     add-end
     sub-le16
     part-le16-start

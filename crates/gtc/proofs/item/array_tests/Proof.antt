@@ -3,7 +3,8 @@ use Rattle.gtc.proofs.item.array_tests.Statement.{statement}
 use Rattle.gtc.proofs.item.array_tests.Tie as tie
 use mathlib.Core.Path.{sym, _∙_, ap}
 use Rattle.reading.proofs.Passed.{bind-short, bind-failed, bind-passed}
-use Rattle.gtc.specs.Item.{shapeCheck, count}
+use Rattle.gtc.specs.Item.{shapeCheck}
+use Rattle.gtc.specs.Answers.{outcomeOfCounted}
 
 cast-array-count : tie.Need-cast-array-count
 cast-array-count c = search needs
@@ -28,21 +29,21 @@ unfolding shapeCheck
 returns c h n =
     let k = c .before .before .before in
     let s = k .before .before .before .args .s .now in
-    bind-short _ _ s _ 0 (sym (k .array-count .ensures) ∙ ap count (c .before .a .given .1))
+    bind-short _ _ s _ 0 (sym (k .array-count .ensures) ∙ ap outcomeOfCounted (c .before .a .given .1))
 
 returns-2 : tie.Need-returns-2
 unfolding shapeCheck
 returns-2 c h n =
     let k = c .before .before .before in
     let s = k .before .before .before .args .s .now in
-    bind-failed _ _ s _ 0 (sym (k .array-count .ensures) ∙ ap count (c .before .t .given .1))
+    bind-failed _ _ s _ 0 (sym (k .array-count .ensures) ∙ ap outcomeOfCounted (c .before .t .given .1))
 
 returns-3 : tie.Need-returns-3
 unfolding shapeCheck
 returns-3 c h n =
     let k = c .before .before .before .before in
     let s = k .before .before .before .args .s .now in
-    c .elements-of .ensures ∙ bind-passed _ _ s _ (sym (k .array-count .ensures) ∙ ap count (c .before .before .m .given .1))
+    c .elements-of .ensures ∙ bind-passed _ _ s _ (sym (k .array-count .ensures) ∙ ap outcomeOfCounted (c .before .before .m .given .1))
 
 pub array-tests-spec : {M : Type 1} → statement M
 array-tests-spec =

@@ -4,7 +4,8 @@ use Rattle.gtc.proofs.item.snp_array_tests.Tie as tie
 use mathlib.Core.Path.{sym, _∙_, ap}
 use Rattle.reading.specs.Answers.{outcomeOfTested}
 use Rattle.reading.proofs.Passed.{bind-short, bind-failed, bind-passed}
-use Rattle.gtc.specs.Item.{shapeCheck, count}
+use Rattle.gtc.specs.Item.{shapeCheck}
+use Rattle.gtc.specs.Answers.{outcomeOfCounted}
 
 cast-p : tie.Need-cast-p
 cast-p c = search needs
@@ -33,7 +34,7 @@ returns c =
     let t = c .before .before .before in
     let k = t .before .before .before .before in
     let s = k .before .before .before .before .args .s .now in
-    bind-failed _ _ s _ 0 (sym (t .snp-tests .ensures s) ∙ ap outcomeOfTested (c .before .t2 .given .1)) ∙ bind-passed _ _ s _ (sym (k .array-count .ensures) ∙ ap count (t .before .before .m .given .1))
+    bind-failed _ _ s _ 0 (sym (t .snp-tests .ensures s) ∙ ap outcomeOfTested (c .before .t2 .given .1)) ∙ bind-passed _ _ s _ (sym (k .array-count .ensures) ∙ ap outcomeOfCounted (t .before .before .m .given .1))
 
 enum-told : tie.Need-enum-told
 enum-told c = search needs
@@ -46,14 +47,14 @@ unfolding shapeCheck
 returns-2 c =
     let k = c .before .before .before in
     let s = k .before .before .before .before .args .s .now in
-    bind-short _ _ s _ 0 (sym (k .array-count .ensures) ∙ ap count (c .before .a .given .1))
+    bind-short _ _ s _ 0 (sym (k .array-count .ensures) ∙ ap outcomeOfCounted (c .before .a .given .1))
 
 returns-3 : tie.Need-returns-3
 unfolding shapeCheck
 returns-3 c =
     let k = c .before .before .before in
     let s = k .before .before .before .before .args .s .now in
-    bind-failed _ _ s _ 0 (sym (k .array-count .ensures) ∙ ap count (c .before .t .given .1))
+    bind-failed _ _ s _ 0 (sym (k .array-count .ensures) ∙ ap outcomeOfCounted (c .before .t .given .1))
 
 returns-4 : tie.Need-returns-4
 unfolding shapeCheck
@@ -61,7 +62,7 @@ returns-4 c =
     let t = c .before .before .before in
     let k = t .before .before .before .before in
     let s = k .before .before .before .before .args .s .now in
-    c .elements-of .ensures ∙ bind-passed _ _ s _ (sym (t .snp-tests .ensures s) ∙ ap outcomeOfTested (c .before .enum-told .given .1)) ∙ bind-passed _ _ s _ (sym (k .array-count .ensures) ∙ ap count (t .before .before .m .given .1))
+    c .elements-of .ensures ∙ bind-passed _ _ s _ (sym (t .snp-tests .ensures s) ∙ ap outcomeOfTested (c .before .enum-told .given .1)) ∙ bind-passed _ _ s _ (sym (k .array-count .ensures) ∙ ap outcomeOfCounted (t .before .before .m .given .1))
 
 pub snp-array-tests-spec : {M : Type 1} → statement M
 snp-array-tests-spec =

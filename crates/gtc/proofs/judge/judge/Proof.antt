@@ -5,7 +5,7 @@ use mathlib.Core.Path.{_∙_}
 use native.Mathlib.Omega.{arith}
 use lib.ListN.{length-take}
 use Rattle.gtc.specs.Judge.{judgeTable, judging}
-use Rattle.gtc.proofs.table.Laws.{table-at, count-good, after-bad, after-short, after-good}
+use Rattle.gtc.proofs.table.Laws.{table-at, count-known, after-failed, after-short, after-count}
 
 read-table-requires : tie.Need-read-table-requires
 read-table-requires c κs = search needs
@@ -22,31 +22,30 @@ enum-known-count c = search needs
 cast-n : tie.Need-cast-n
 cast-n c = search needs
 
-mul-end : tie.Need-mul-end
-mul-end c = search needs
-
-add-end : tie.Need-add-end
-add-end c = search needs
+table-end-requires : tie.Need-table-end-requires
+table-end-requires c κs = search needs
 
 slice-aggregate-judge-table : tie.Need-slice-aggregate-judge-table
 slice-aggregate-judge-table c =
-    let t = c .before .before .before .before in
+    let t = c .before .before .before .before .before in
     let s = t .before .before .args .s .now in
-    let w = table-at s _ (count-good s _ (t .read-table .ensures) _ (c .before .before .count .given .1)) in
+    let e = c .before .table-end .ensures in
+    let w = table-at s _ (count-known s _ (t .read-table .ensures) _ (c .before .before .before .count .given .1)) in
     simp length-take (omega arith)
 
 judge-table-requires : tie.Need-judge-table-requires
 judge-table-requires c κs =
-    let t = c .before .before .before .before in
+    let t = c .before .before .before .before .before in
     let s = t .before .before .args .s .now in
-    let w = table-at s _ (count-good s _ (t .read-table .ensures) _ (c .before .before .count .given .1)) in
+    let e = c .before .table-end .ensures in
+    let w = table-at s _ (count-known s _ (t .read-table .ensures) _ (c .before .before .before .count .given .1)) in
     simp length-take (omega arith)
 
 returns : tie.Need-returns
 unfolding judging
 returns c =
     let t = c .before .before .before in
-    after-bad (t .before .before .args .s .now) _ (t .read-table .ensures) (λ t. judgeTable (t .upTo) (t .count)) _ (c .before .t .given .1)
+    after-failed (t .before .before .args .s .now) _ (t .read-table .ensures) (λ t. judgeTable (t .upTo) (t .count)) _ (c .before .t .given .1)
 
 returns-2 : tie.Need-returns-2
 unfolding judging
@@ -57,8 +56,8 @@ returns-2 c =
 returns-3 : tie.Need-returns-3
 unfolding judging
 returns-3 c =
-    let t = c .before .before .before .before .before in
-    c .judge-table .ensures ∙ after-good (t .before .before .args .s .now) _ (t .read-table .ensures) (λ t. judgeTable (t .upTo) (t .count)) _ (c .before .before .before .count .given .1)
+    let t = c .before .before .before .before .before .before in
+    c .judge-table .ensures ∙ after-count (t .before .before .args .s .now) _ (t .read-table .ensures) (λ t. judgeTable (t .upTo) (t .count)) _ (c .before .before .before .before .count .given .1) _ (c .before .before .table-end .ensures)
 
 pub judge-spec : {M : Type 1} → statement M
 judge-spec =
@@ -69,8 +68,7 @@ judge-spec =
     enum-told
     enum-known-count
     cast-n
-    mul-end
-    add-end
+    table-end-requires
     slice-aggregate-judge-table
     judge-table-requires
     returns

@@ -4,7 +4,7 @@ use Rattle.gtc.proofs.lookup.data_part.Tie as tie
 use mathlib.Core.Path.{sym, _∙_, ap}
 use Rattle.reading.specs.Part.{shown}
 use Rattle.reading.proofs.Parts.{part-there}
-use Rattle.gtc.specs.Lookup.{found}
+use Rattle.reading.specs.Answers.{answerOfFound}
 use Rattle.gtc.proofs.lookup.Laws.{lookup-within}
 use native.Mathlib.Omega.{arith}
 
@@ -33,7 +33,7 @@ returns-2 c =
     let o = c .before .before .before .before in
     let g = o .before .before .args in
     let a = c .before .before in
-    let w = lookup-within (g .id) (g .s .now) _ (sym (o .lookup .ensures) ∙ ap found (a .q .given .1)) in
+    let w = lookup-within (g .id) (g .s .now) _ (sym (o .lookup .ensures) ∙ ap answerOfFound (a .q .given .1)) in
     c .part2 .ensures ∙ part-there (shown (g .s)) _ _ w ∙ rw (← o .lookup .ensures, a .q .given .1)
 
 pub data-part-spec : {M : Type 1} → statement M

@@ -5,7 +5,7 @@ use mathlib.Core.Path.{_∙_}
 use native.Mathlib.Omega.{arith}
 use lib.ListN.{length-take}
 use Rattle.gtc.specs.Lookup.{lookupIn, lookingUp}
-use Rattle.gtc.proofs.table.Laws.{table-at, count-good, after-bad, after-short, after-good}
+use Rattle.gtc.proofs.table.Laws.{table-at, count-known, after-failed, after-short, after-count}
 
 read-table-requires : tie.Need-read-table-requires
 read-table-requires c κs = search needs
@@ -22,24 +22,23 @@ enum-known-count c = search needs
 cast-n : tie.Need-cast-n
 cast-n c = search needs
 
-mul-end : tie.Need-mul-end
-mul-end c = search needs
-
-add-end : tie.Need-add-end
-add-end c = search needs
+table-end-requires : tie.Need-table-end-requires
+table-end-requires c κs = search needs
 
 slice-aggregate-lookup-in : tie.Need-slice-aggregate-lookup-in
 slice-aggregate-lookup-in c =
-    let t = c .before .before .before .before in
+    let t = c .before .before .before .before .before in
     let s = t .before .before .args .s .now in
-    let w = table-at s _ (count-good s _ (t .read-table .ensures) _ (c .before .before .count .given .1)) in
+    let e = c .before .table-end .ensures in
+    let w = table-at s _ (count-known s _ (t .read-table .ensures) _ (c .before .before .before .count .given .1)) in
     simp length-take (omega arith)
 
 lookup-in-requires : tie.Need-lookup-in-requires
 lookup-in-requires c κs =
-    let t = c .before .before .before .before in
+    let t = c .before .before .before .before .before in
     let s = t .before .before .args .s .now in
-    let w = table-at s _ (count-good s _ (t .read-table .ensures) _ (c .before .before .count .given .1)) in
+    let e = c .before .table-end .ensures in
+    let w = table-at s _ (count-known s _ (t .read-table .ensures) _ (c .before .before .before .count .given .1)) in
     simp length-take (omega arith)
 
 returns : tie.Need-returns
@@ -47,7 +46,7 @@ unfolding lookingUp
 returns c =
     let t = c .before .before .before in
     let g = t .before .before .args in
-    after-bad (g .s .now) _ (t .read-table .ensures) (λ t. lookupIn (t .upTo) (t .count) (g .id)) _ (c .before .t .given .1)
+    after-failed (g .s .now) _ (t .read-table .ensures) (λ t. lookupIn (t .upTo) (t .count) (g .id)) _ (c .before .t .given .1)
 
 returns-2 : tie.Need-returns-2
 unfolding lookingUp
@@ -59,9 +58,9 @@ returns-2 c =
 returns-3 : tie.Need-returns-3
 unfolding lookingUp
 returns-3 c =
-    let t = c .before .before .before .before .before in
+    let t = c .before .before .before .before .before .before in
     let g = t .before .before .args in
-    c .lookup-in .ensures ∙ after-good (g .s .now) _ (t .read-table .ensures) (λ t. lookupIn (t .upTo) (t .count) (g .id)) _ (c .before .before .before .count .given .1)
+    c .lookup-in .ensures ∙ after-count (g .s .now) _ (t .read-table .ensures) (λ t. lookupIn (t .upTo) (t .count) (g .id)) _ (c .before .before .before .before .count .given .1) _ (c .before .before .table-end .ensures)
 
 pub lookup-spec : {M : Type 1} → statement M
 lookup-spec =
@@ -72,8 +71,7 @@ lookup-spec =
     enum-told
     enum-known-count
     cast-n
-    mul-end
-    add-end
+    table-end-requires
     slice-aggregate-lookup-in
     lookup-in-requires
     returns

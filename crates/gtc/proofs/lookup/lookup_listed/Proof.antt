@@ -6,8 +6,7 @@ use mathlib.Core.Path.{sym, _∙_, ap}
 use Rattle.reading.specs.Check.{answerOfOutcome}
 use Rattle.reading.proofs.Cut.{answer-plain, run-ok}
 use Rattle.reading.proofs.Passed.{bind-failed, bind-passed}
-use Rattle.gtc.specs.Entry.{entryFound}
-use Rattle.gtc.specs.Item.{item}
+use Rattle.gtc.specs.Answers.{outcomeOfEntryFound, outcomeOfItemRead}
 use Rattle.gtc.specs.Lookup.{lookupListed}
 use Rattle.gtc.proofs.lookup.Laws.{found-place}
 
@@ -24,7 +23,7 @@ item-tests-requires : tie.Need-item-tests-requires
 item-tests-requires c κs =
     let e = c .before .before .before in
     let g = e .before .before .before .args in
-    let p = found-place (g .s .now) (g .h .now) (g .n) (g .id) _ (run-ok _ (g .s .now) _ (sym (e .entry-with .ensures (g .s .now)) ∙ ap entryFound (c .before .d .given .1))) in
+    let p = found-place (g .s .now) (g .h .now) (g .n) (g .id) _ (run-ok _ (g .s .now) _ (sym (e .entry-with .ensures (g .s .now)) ∙ ap outcomeOfEntryFound (c .before .d .given .1))) in
     (omega arith, omega arith)
 
 enum-known-t-2 : tie.Need-enum-known-t-2
@@ -41,7 +40,7 @@ unfolding lookupListed
 returns c =
     let e = c .before .before .before in
     let s = e .before .before .before .args .s .now in
-    ap answerOfOutcome (bind-failed _ _ s _ 0 (sym (e .entry-with .ensures s) ∙ ap entryFound (c .before .t .given .1))) ∙ sym (answer-plain _ s)
+    ap answerOfOutcome (bind-failed _ _ s _ 0 (sym (e .entry-with .ensures s) ∙ ap outcomeOfEntryFound (c .before .t .given .1))) ∙ sym (answer-plain _ s)
 
 returns-2 : tie.Need-returns-2
 unfolding lookupListed
@@ -49,7 +48,7 @@ returns-2 c =
     let t = c .before .before .before in
     let e = t .before .before .before .before in
     let s = e .before .before .before .args .s .now in
-    ap answerOfOutcome (sym (ap item (c .before .t2 .given .1)) ∙ t .item-tests .ensures ∙ bind-passed _ _ s _ (sym (e .entry-with .ensures s) ∙ ap entryFound (t .before .before .d .given .1))) ∙ sym (answer-plain _ s)
+    ap answerOfOutcome (sym (ap outcomeOfItemRead (c .before .t2 .given .1)) ∙ t .item-tests .ensures ∙ bind-passed _ _ s _ (sym (e .entry-with .ensures s) ∙ ap outcomeOfEntryFound (t .before .before .d .given .1))) ∙ sym (answer-plain _ s)
 
 returns-3 : tie.Need-returns-3
 unfolding lookupListed
@@ -57,7 +56,7 @@ returns-3 c =
     let t = c .before .before in
     let e = t .before .before .before .before in
     let s = e .before .before .before .args .s .now in
-    ap answerOfOutcome (sym (ap item (c .enum-told .given .1)) ∙ t .item-tests .ensures ∙ bind-passed _ _ s _ (sym (e .entry-with .ensures s) ∙ ap entryFound (t .before .before .d .given .1))) ∙ sym (answer-plain _ s)
+    ap answerOfOutcome (sym (ap outcomeOfItemRead (c .enum-told .given .1)) ∙ t .item-tests .ensures ∙ bind-passed _ _ s _ (sym (e .entry-with .ensures s) ∙ ap outcomeOfEntryFound (t .before .before .d .given .1))) ∙ sym (answer-plain _ s)
 
 returns-4 : tie.Need-returns-4
 unfolding lookupListed
@@ -65,7 +64,7 @@ returns-4 c =
     let t = c .before .before .before in
     let e = t .before .before .before .before in
     let s = e .before .before .before .args .s .now in
-    ap answerOfOutcome (sym (ap item (c .before .q .given .1)) ∙ t .item-tests .ensures ∙ bind-passed _ _ s _ (sym (e .entry-with .ensures s) ∙ ap entryFound (t .before .before .d .given .1))) ∙ sym (answer-plain _ s)
+    ap answerOfOutcome (sym (ap outcomeOfItemRead (c .before .q .given .1)) ∙ t .item-tests .ensures ∙ bind-passed _ _ s _ (sym (e .entry-with .ensures s) ∙ ap outcomeOfEntryFound (t .before .before .d .given .1))) ∙ sym (answer-plain _ s)
 
 pub lookup-listed-spec : {M : Type 1} → statement M
 lookup-listed-spec =

@@ -14,33 +14,29 @@ use super::library;
 use super::writer::{self, Lent};
 use crate::answers::Finished;
 use crate::output::Output;
-use crate::report::Group;
-use crate::report::Run;
+use crate::report::{Group, NamedRun};
 use list::List;
 
-pub const GROUPS: [(&str, Run); 19] = [
-    ("ABIF writing published samples", bounds::published),
-    ("ABIF writing every type code", bounds::type_codes),
-    ("ABIF writing small sizes", bounds::small_sizes),
-    ("ABIF writing rooms", bounds::rooms),
-    ("ABIF writing tags in order", bounds::tags),
-    ("ABIF writing numbers of items", bounds::item_counts),
-    ("ABIF writing long items", bounds::long_items),
-    ("ABIF writing dates", contents::dates),
-    ("ABIF writing times", contents::times),
-    ("ABIF writing pStrings", contents::pascal_texts),
-    ("ABIF writing cStrings", contents::closed_texts),
-    (
-        "ABIF writing lists of other lengths",
-        extremes::list_lengths,
-    ),
-    ("ABIF writing parts at their bounds", extremes::parts),
-    ("ABIF writing sizes at their bounds", extremes::sizes),
-    ("ABIF writing totals at their bounds", extremes::totals),
-    ("ABIF writing past 32 bits", extremes::past_32_bits),
-    ("ABIF writing one rule broken", broken::alone),
-    ("ABIF writing two rules broken", broken::pairs),
-    ("ABIF writing random lists", random_lists::lists),
+pub const GROUPS: [NamedRun; 19] = [
+    ("published samples", bounds::published),
+    ("every type code", bounds::type_codes),
+    ("small sizes", bounds::small_sizes),
+    ("rooms", bounds::rooms),
+    ("tags in order", bounds::tags),
+    ("numbers of items", bounds::item_counts),
+    ("long items", bounds::long_items),
+    ("dates", contents::dates),
+    ("times", contents::times),
+    ("pStrings", contents::pascal_texts),
+    ("cStrings", contents::closed_texts),
+    ("lists of other lengths", extremes::list_lengths),
+    ("parts at their bounds", extremes::parts),
+    ("sizes at their bounds", extremes::sizes),
+    ("totals at their bounds", extremes::totals),
+    ("past 32 bits", extremes::past_32_bits),
+    ("one rule broken", broken::alone),
+    ("two rules broken", broken::pairs),
+    ("random lists", random_lists::lists),
 ];
 
 /// Compares both sides on this list and room, reads an accepted file back, and returns the refusal.

@@ -1,0 +1,4 @@
+pub mod Element
+pub mod Numbers
+pub mod Text
+pub mod Answers

@@ -1,0 +1,40 @@
+use borrow.Author.Needs.{needs}
+use Rattle.gtc_records.proofs.snps.put_record.Statement.{statement}
+use Rattle.gtc_records.proofs.snps.put_record.Tie as tie
+
+enum-known-r : tie.Need-enum-known-r
+enum-known-r c = search needs
+
+put-refused-requires : tie.Need-put-refused-requires
+put-refused-requires c κs = search needs
+
+enum-known-r-2 : tie.Need-enum-known-r-2
+enum-known-r-2 c = search needs
+
+put-numbers-requires : tie.Need-put-numbers-requires
+put-numbers-requires c κs = search needs
+
+same-length : tie.Need-same-length
+same-length c = search needs
+
+returns : tie.Need-returns
+returns c = rw (c .before .before .before .before .before .r .given .1) (c .before .before .put-refused .ensures)
+
+same-length-2 : tie.Need-same-length-2
+same-length-2 c = search needs
+
+returns-2 : tie.Need-returns-2
+returns-2 c = rw (c .before .before .before .before .before .r2 .given .1) (c .before .before .put-numbers .ensures)
+
+pub put-record-spec : {M : Type 1} → statement M
+put-record-spec =
+    tie.close
+    (tie.spec
+    enum-known-r
+    put-refused-requires
+    enum-known-r-2
+    put-numbers-requires
+    same-length
+    returns
+    same-length-2
+    returns-2)
