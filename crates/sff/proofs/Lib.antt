@@ -1,3 +1,4 @@
 pub mod Reach
 pub mod Refused
 pub mod NoIndex
+pub mod Passages

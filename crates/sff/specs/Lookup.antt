@@ -30,8 +30,8 @@ readFrom flows place = do
 unfoldable pub readIn : Header → ℕ → Check Read
 readIn header number = do
   boundary ← beforeRead header number
-  skipped ← skipIndex header boundary
-  readFrom (header .flows) (skipped .position)
+  here ← skipIndex header boundary
+  readFrom (header .flows) (here .position)
 
 unfoldable pub readReading : ℕ → Check Read
 readReading number = do

@@ -36,9 +36,9 @@ pub record Placed : Type 0 where
 -- the read behind a boundary, which is read i, counted from 0 and reported from one; the index is reported at 0
 unfoldable pub nextRead : Header → ℕ → Boundary → Check Placed
 nextRead header i boundary = do
-  skipped ← skipIndex header boundary
-  end ← at (i + 1) (framing (header .flows) (skipped .position))
-  done (record { start = skipped .position; behind = record { position = end; met = skipped .met } })
+  here ← skipIndex header boundary
+  end ← at (i + 1) (framing (header .flows) (here .position))
+  done (record { start = here .position; behind = record { position = end; met = here .met } })
 
 -- the places of reads, and the boundary behind the last one
 pub record Passage : Type 0 where

@@ -7,10 +7,8 @@ use crate::walk::Reached;
 use crate::walk::Skipped;
 use crate::walk::skip_index;
 use crate::walk::walk_to;
-use contents::steps::steps_hold;
 use reading::check::Ended;
 use reading::part::part;
-use sff_fields::clips::clips_hold;
 use sff_fields::clips::first_base;
 use sff_fields::clips::last_base;
 use sff_fields::header::Header;
@@ -21,6 +19,7 @@ use sff_fields::parts::place_of;
 use sff_fields::position::BasePosition;
 use sff_fields::read::READ_FRONT_LENGTH;
 use sff_fields::read::ReadHeader;
+use sff_fields::read_contents::contents_hold;
 use sff_fields::record::ReadFound;
 ghost use mathlib.Core.Path.{_≡_};
 ghost use mathlib.Core.List.{List};
@@ -84,15 +83,11 @@ fn read_present(l: &[u8], flows: u16, d: ReadHeader) -> ReadFound
     requires { ⌜ stepsStart flows d + d .bases ≤ length (now l) ⌝ }
     ensures { λ r. ⌜ ((s : List ℕ) → answerOfReadFound r ≡ answer (readContents flows d (now (l .entry))) s) ⌝ }
 {
-    let hold = clips_hold(d);
+    let start = d.start + d.header_length as usize + 2 * flows as usize;
+    let end = start + d.bases as usize;
+    let hold = contents_hold(d, flows, &l[start..end]);
     if hold {
-        let start = d.start + d.header_length as usize + 2 * flows as usize;
-        let end = start + d.bases as usize;
-        let sound = steps_hold(flows, &l[start..end]);
-        if sound {
-            return ReadFound::At(read_of(flows, d));
-        }
-        return ReadFound::Refused(11);
+        return ReadFound::At(read_of(flows, d));
     }
     ReadFound::Refused(11)
 }

@@ -5,4 +5,5 @@ pub mod padding;
 pub mod parts;
 pub mod position;
 pub mod read;
+pub mod read_contents;
 pub mod record;

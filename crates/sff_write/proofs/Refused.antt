@@ -6,7 +6,8 @@ use Rattle.sff_fields.specs.declared.read.ReadHeader.{ReadHeader}
 use Rattle.sff_fields.specs.Clips.{clipsCheck}
 use Rattle.contents.specs.Steps.{stepsCheck}
 use Rattle.sff_write.specs.declared.write.Writer.{Writer}
-use Rattle.sff_write.specs.Read.{GivenRead, clipsFit, nameFits, lengthsCheck, contentsCheck}
+use Rattle.sff_write.specs.Read.{GivenRead, clipsFit, nameFits, lengthsCheck}
+use Rattle.sff_fields.specs.Contents.{contentsCheck}
 use Rattle.sff_write.specs.Write.{beginning, addingFit, adding, finishing}
 
 module _ (P : ℕ → ℕ → Type 0) (s : List ℕ) (lengths : P 9 0) where

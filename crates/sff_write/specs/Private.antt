@@ -1,5 +1,5 @@
 -- What private functions ask of their callers. No public call's contract cites this.
-use Prim.Native.Nat.{ℕ, _+_, _≤_}
+use Prim.Native.Nat.{ℕ, _≤_}
 use mathlib.Core.Path.{_≡_}
 use lib.ListN.{length}
 use Rattle.sff_write.specs.declared.read.Clips.{Clips}

@@ -5,11 +5,9 @@ use lib.Dec.{leb, eqb}
 use lib.ListN.{length, replicate}
 use denote.Ref.{RefT, now}
 use Rattle.reading.specs.Check.{Check, provided, _>>=_, _>>_}
-use Rattle.contents.specs.Steps.{stepsCheck}
 use Rattle.sff_fields.specs.declared.read.ReadHeader.{ReadHeader}
 use Rattle.sff_fields.specs.Padding.{padding, padded}
 use Rattle.sff_fields.specs.Read.{readFrontLength}
-use Rattle.sff_fields.specs.Clips.{clipsCheck}
 use Rattle.writing.specs.Put.{digits, words}
 use Rattle.sff_write.specs.declared.read.Clips.{Clips}
 
@@ -73,12 +71,6 @@ headerWith start name bases clips =
 
 abbrev pub headerFor : ℕ → GivenRead → ReadHeader
 headerFor start read = headerWith start (length (read .name)) (length (read .letters)) (read .clips)
-
--- the contents that the reader checks too: the clips, and the flow steps 11
-unfoldable pub contentsCheck : ReadHeader → ℕ → List ℕ → Check (Unit {0})
-contentsCheck header flows steps = do
-  clipsCheck header
-  stepsCheck flows steps 0 (length steps)
 
 -- a read's header length, name length and bases; its clips
 unfoldable pub lengthBytes : ReadHeader → List ℕ

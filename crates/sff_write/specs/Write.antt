@@ -4,10 +4,11 @@ use mathlib.Core.List.{List}
 use lib.Dec.{leb, ltb, eqb}
 use lib.ListN.{length}
 use Rattle.reading.specs.Check.{Check, Answer, ok, refused, done, provided, _>>=_, _>>_}
+use Rattle.sff_fields.specs.Contents.{contentsCheck}
 use Rattle.writing.specs.Put.{put}
 use Rattle.sff_write.specs.declared.write.Writer.{Writer}
 use Rattle.sff_write.specs.Header.{headerSize, headerBytes}
-use Rattle.sff_write.specs.Read.{GivenRead, headerFor, lengthsCheck, contentsCheck, readBytes}
+use Rattle.sff_write.specs.Read.{GivenRead, headerFor, lengthsCheck, readBytes}
 
 -- what a call writes, and the state of the file behind it
 pub record Piece : Type 0 where

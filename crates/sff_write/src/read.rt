@@ -1,6 +1,4 @@
 // A read: what it is checked for, and its bytes.
-use contents::steps::steps_hold;
-use sff_fields::clips::clips_hold;
 use sff_fields::padding::padding_behind;
 use sff_fields::read::READ_FRONT_LENGTH;
 use sff_fields::read::ReadHeader;
@@ -16,7 +14,7 @@ ghost use lib.ListN.{length, replicate};
 ghost use Rattle.reading.specs.Choice.{pick};
 ghost use Rattle.reading.specs.Check.{answer, ok, refused};
 ghost use Rattle.writing.specs.Put.{put};
-ghost use Rattle.sff_write.specs.Read.{lentRead, nameFits, clipsFit, lengthsCheck, readHeaderSize, headerWith, contentsCheck};
+ghost use Rattle.sff_write.specs.Read.{lentRead, nameFits, clipsFit, lengthsCheck, readHeaderSize, headerWith};
 ghost use Rattle.sff_write.specs.Read.{lengthBytes, clipBytes, fieldBytes, readBytes};
 ghost use Rattle.sff_write.specs.Private.{FittingClips};
 
@@ -108,17 +106,6 @@ pub(crate) fn header_with(p: usize, name: usize, bases: usize, c: Clips) -> Read
         adapter_left: c.adapter_left as u16,
         adapter_right: c.adapter_right as u16,
     }
-}
-
-// No clip is above the bases, and the steps keep to the flows.
-pub(crate) fn contents_hold(d: ReadHeader, flows: u16, steps: &[u8]) -> bool
-    ensures { λ r. ⌜ ((l : List ℕ) → pick r (ok tt) (refused 11 0) ≡ answer (contentsCheck d flows (now (steps .entry))) l) ⌝ }
-{
-    let hold = clips_hold(d);
-    if hold {
-        return steps_hold(flows, steps);
-    }
-    false
 }
 
 fn put_lengths(out: &mut [u8], p: usize, d: ReadHeader)

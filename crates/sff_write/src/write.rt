@@ -1,12 +1,12 @@
 // The writer's calls. What has been written is told by a state that goes in and comes back; any state may be handed in.
 use crate::header::put_header;
 use crate::read::Clips;
-use crate::read::contents_hold;
 use crate::read::header_with;
 use crate::read::lengths_hold;
 use crate::read::put_read;
 use sff_fields::header::FRONT_LENGTH;
 use sff_fields::padding::padding_behind;
+use sff_fields::read_contents::contents_hold;
 use writing::answer::Written;
 ghost use mathlib.Core.Path.{_≡_};
 ghost use mathlib.Core.List.{[]};

@@ -9,10 +9,10 @@ use lib.Dec.{leb, eqb}
 use borrow.Author.Tests.{leb-true}
 use Rattle.reading.specs.declared.check.Test.{Test}
 use Rattle.reading.specs.Choice.{pick}
-use Rattle.reading.specs.Check.{Need, passed, failed, short, ok, refused, answerOfOutcome, run, answer, holds}
+use Rattle.reading.specs.Check.{Need, passed, failed, short, Answer, ok, refused, mapAnswer, answerOfOutcome, run, answer, holds}
 use Rattle.reading.specs.Part.{Part, partOf, partWithin, Span}
 use Rattle.reading.proofs.Cut.{answer-plain, run-ok}
-use Rattle.reading.proofs.Steps.{answer-bind, answer-done}
+use Rattle.reading.proofs.Steps.{after, answer-bind, answer-done}
 use Rattle.reading.proofs.Passed.{bind-ok, done-ok, must-ok, stops-failed, stops-short, bind-answered}
 use Rattle.reading.proofs.Parts.{part-there}
 use Rattle.sff_fields.specs.declared.header.Header.{Header}
@@ -29,6 +29,7 @@ use Rattle.sff_fields.specs.Read.{readEnd, stepsStart, lettersStart}
 use Rattle.sff.specs.Walk.{skipIndex, beforeRead}
 use Rattle.sff_fields.specs.Clips.{clipsCheck, firstBase, rightClip, lastBase, insertFrom, insert}
 use Rattle.contents.specs.Steps.{stepsCheck}
+use Rattle.sff_fields.specs.Contents.{contentsCheck}
 use Rattle.sff.specs.Lookup.{readContents, readFrom, readIn, readReading}
 use Rattle.sff_fields.specs.Parts.{readOf, spanOf}
 use Rattle.sff_fields.proofs.padding.Laws.{padded-bounds}
@@ -50,20 +51,26 @@ last-below d v q =
 pub insert-of : (f : ℕ) (d : ReadHeader) (a b : ℕ) → a ≡ firstBase d → b ≡ lastBase d → insertFrom (lettersStart f d) a b ≡ insert f d
 insert-of f d a b q r = rw (q, r)
 
--- the contents of a read, from what its clips and its steps answer
-module _ (f : ℕ) (d : ReadHeader) (l s : List ℕ) (a : Bool) (q : pick a (ok tt) (refused 11 0) ≡ answer (clipsCheck d) s) where
-  pub contents-clips : a ≡ false → refused 11 0 ≡ answer (readContents f d l) s
-  unfolding readContents
-  contents-clips h = simp (answer-bind, ← q, h)
+-- the contents of a read, from what the checks of its steps alone answer
+module _ (f : ℕ) (d : ReadHeader) (l t s : List ℕ) (w : answer (stepsCheck f t 0 (length t)) s ≡ answer (stepsCheck f l (stepsStart f d) (d .bases)) s) where
+  contents-same : answer (readContents f d l) s ≡ mapAnswer (λ _. readOf f d) (answer (contentsCheck d f t) s)
+  unfolding readContents contentsCheck
+  contents-same = simp (answer-bind, answer-done, ← w) (go (answer (clipsCheck d) s))
+    where
+      inner : (y : Answer (Unit {0})) → after y (λ _. ok (readOf f d)) ≡ mapAnswer (λ _. readOf f d) y
+      inner (ok u) = refl
+      inner (refused n e) = refl
 
-  module _ (b : Bool) (u : pick b (ok tt) (refused 11 0) ≡ answer (stepsCheck f l (stepsStart f d) (d .bases)) s) (h : a ≡ true) where
-    pub contents-steps : b ≡ false → refused 11 0 ≡ answer (readContents f d l) s
-    unfolding readContents
-    contents-steps k = simp (answer-bind, ← q, h, ← u, k)
+      go : (x : Answer (Unit {0})) → after x (λ _. after (answer (stepsCheck f t 0 (length t)) s) (λ _. ok (readOf f d))) ≡ mapAnswer (λ _. readOf f d) (after x (λ _. answer (stepsCheck f t 0 (length t)) s))
+      go (ok u) = inner (answer (stepsCheck f t 0 (length t)) s)
+      go (refused n e) = refl
 
-    pub contents-good : b ≡ true → ok (readOf f d) ≡ answer (readContents f d l) s
-    unfolding readContents
-    contents-good k = simp (answer-bind, ← q, h, ← u, k, answer-done)
+  module _ (a : Bool) (q : pick a (ok tt) (refused 11 0) ≡ answer (contentsCheck d f t) s) where
+    pub contents-bad : a ≡ false → refused 11 0 ≡ answer (readContents f d l) s
+    contents-bad h = rw (contents-same, ← q, h)
+
+    pub contents-good : a ≡ true → ok (readOf f d) ≡ answer (readContents f d l) s
+    contents-good h = rw (contents-same, ← q, h)
 
 -- contents that were answered: the right quality clip is not past the bases, and the answer is what is told of the read
 contents-passed : (f : ℕ) (d : ReadHeader) (l s : List ℕ) (r : Read) → answer (readContents f d l) s ≡ ok r → (d .«quality_right» ≤ d .bases) × (readOf f d ≡ r)

@@ -13,14 +13,12 @@ use Rattle.reading.proofs.Steps.{answer-bind, answer-must}
 use Rattle.reading.proofs.Passed.{bind-ok, must-ok}
 use Rattle.sff_fields.specs.declared.read.ReadHeader.{ReadHeader}
 use Rattle.sff_fields.specs.Padding.{padding, padded}
-use Rattle.sff_fields.specs.Clips.{clipsCheck}
-use Rattle.contents.specs.Steps.{stepsCheck}
 use Rattle.writing.specs.Put.{digits, words, put}
 use Rattle.writing.proofs.Over.{follow}
 use Rattle.writing.proofs.Pieces.{three, four}
 use Rattle.writing.proofs.Words.{length-words}
 use Rattle.sff_write.specs.declared.read.Clips.{Clips}
-use Rattle.sff_write.specs.Read.{GivenRead, clipsFit, nameFits, lengthsCheck, headerWith, contentsCheck, lengthBytes, clipBytes, fieldBytes, readBytes}
+use Rattle.sff_write.specs.Read.{GivenRead, clipsFit, nameFits, lengthsCheck, headerWith, lengthBytes, clipBytes, fieldBytes, readBytes}
 use Rattle.sff_write.specs.Private.{Fitting}
 
 -- what the lengths' checks leave
@@ -96,16 +94,6 @@ module _ (f : ℕ) (r : GivenRead) (l : List ℕ) (a : Bool) (q : pick a (ok tt)
             pub lengths-clips : length (r .letters) ≤ 0xffffffff → (b : Bool) → pick b (ok tt) (refused 9 0) ≡ answer (clipsFit (r .clips)) l → pick b (ok tt) (refused 9 0) ≡ answer (lengthsCheck f r) l
             unfolding lengthsCheck holds
             lengths-clips n b v = simp (answer-bind, answer-must, ← q, h, le-leb _ _ k, eq-eqb _ _ e, eq-eqb _ _ s, eq-eqb _ _ u, le-leb _ _ n) v
-
--- the contents, from what the clips and the steps answer
-module _ (d : ReadHeader) (f : ℕ) (steps l : List ℕ) (a : Bool) (q : pick a (ok tt) (refused 11 0) ≡ answer (clipsCheck d) l) where
-  pub contents-clips : a ≡ false → refused 11 0 ≡ answer (contentsCheck d f steps) l
-  unfolding contentsCheck
-  contents-clips h = simp (answer-bind, ← q, h)
-
-  pub contents-steps : (b : Bool) → pick b (ok tt) (refused 11 0) ≡ answer (stepsCheck f steps 0 (length steps)) l → a ≡ true → pick b (ok tt) (refused 11 0) ≡ answer (contentsCheck d f steps) l
-  unfolding contentsCheck
-  contents-steps b u h = simp (answer-bind, ← q, h) u
 
 -- a length and its padding
 pub size-is : (n z : ℕ) → z ≡ padding n → n + z ≡ padded n

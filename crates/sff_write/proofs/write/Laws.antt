@@ -17,7 +17,8 @@ use Rattle.contents.specs.Steps.{stepsCheck}
 use Rattle.writing.specs.Put.{put}
 use Rattle.sff_write.specs.declared.write.Writer.{Writer}
 use Rattle.sff_write.specs.Header.{headerSize, headerBytes}
-use Rattle.sff_write.specs.Read.{GivenRead, headerWith, headerFor, lengthsCheck, contentsCheck, readBytes}
+use Rattle.sff_write.specs.Read.{GivenRead, headerWith, headerFor, lengthsCheck, readBytes}
+use Rattle.sff_fields.specs.Contents.{contentsCheck}
 use Rattle.sff_write.specs.Private.{Fitting}
 use Rattle.sff_write.specs.Write.{Piece, behind, writtenAt, beginning, nextState, addingFit, adding, finishing}
 use Rattle.sff_write.proofs.read.Laws.{fitting, size-is, length-read}

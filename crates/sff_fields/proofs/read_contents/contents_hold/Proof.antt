@@ -1,7 +1,7 @@
-use Rattle.sff_write.proofs.read.Laws.{contents-clips, contents-steps}
+use Rattle.sff_fields.proofs.read_contents.Laws.{contents-clips, contents-steps}
 use borrow.Author.Needs.{needs}
-use Rattle.sff_write.proofs.read.contents_hold.Statement.{statement}
-use Rattle.sff_write.proofs.read.contents_hold.Tie as tie
+use Rattle.sff_fields.proofs.read_contents.contents_hold.Statement.{statement}
+use Rattle.sff_fields.proofs.read_contents.contents_hold.Tie as tie
 
 clips-hold-requires : tie.Need-clips-hold-requires
 clips-hold-requires c κs = search needs
