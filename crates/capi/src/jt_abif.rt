@@ -247,7 +247,9 @@ pub extern "C" fn jt_abif_whole_numbers(
     out: &mut [i64],
 ) -> Listed
     ensures { λ r. ⌜ r ≡ asListed (mapAnswer length (answer (numbersReading name (bits 4 number) first (length (now (out .entry)))) (now (s .entry)))) ⌝ }
-    ensures { λ _. ⌜ now (out .exit) ≡ filled (answer (numbersReading name (bits 4 number) first (length (now (out .entry)))) (now (s .entry))) (now (out .entry)) ⌝ }
+    ensures { λ _. ⌜ now (out .exit) ≡ filled
+        (answer (numbersReading name (bits 4 number) first (length (now (out .entry)))) (now (s .entry)))
+        (now (out .entry)) ⌝ }
 {
     let bits = bits32(number);
     as_listed(numbers::whole_numbers(s, name, bits, first, out))

@@ -23,8 +23,15 @@ pub extern "C" fn jt_abif_write(
     buffer: &[u8],
     out: &mut [u8],
 ) -> Written
-    ensures { λ r. ⌜ r ≡ asWritten (mapAnswer length (answer (writing (lentRecords (names .entry) (numbers .entry) (types .entry) (counts .entry) (starts .entry) (lengths .entry)) (now (buffer .entry)) (length (now (out .entry)))) [])) ⌝ }
-    ensures { λ _. ⌜ now (out .exit) ≡ filled (answer (writing (lentRecords (names .entry) (numbers .entry) (types .entry) (counts .entry) (starts .entry) (lengths .entry)) (now (buffer .entry)) (length (now (out .entry)))) []) (now (out .entry)) ⌝ }
+    ensures { λ r. ⌜ r ≡ asWritten (mapAnswer length
+        (answer
+        (writing (lentRecords (names .entry) (numbers .entry) (types .entry) (counts .entry) (starts .entry) (lengths .entry)) (now (buffer .entry))
+        (length (now (out .entry)))) [])) ⌝ }
+    ensures { λ _. ⌜ now (out .exit) ≡ filled
+        (answer
+        (writing (lentRecords (names .entry) (numbers .entry) (types .entry) (counts .entry) (starts .entry) (lengths .entry)) (now (buffer .entry))
+        (length (now (out .entry)))) [])
+        (now (out .entry)) ⌝ }
 {
     as_written(write::write(names, numbers, types, counts, starts, lengths, buffer, out))
 }

@@ -121,7 +121,9 @@ pub extern "C" fn jt_gtc_snp(s: &[u8], index: u64) -> Snp
 #[no_mangle]
 pub extern "C" fn jt_gtc_snps(s: &[u8], first: u64, out: &mut [u64]) -> Listed
     ensures { λ r. ⌜ r ≡ asListed (mapAnswer length (answer (snpsReading first (length (now (out .entry)))) (now (s .entry)))) ⌝ }
-    ensures { λ _. ⌜ now (out .exit) ≡ filled (mapAnswer (records 9 snpNumbers) (answer (snpsReading first (length (now (out .entry)))) (now (s .entry)))) (now (out .entry)) ⌝ }
+    ensures { λ _. ⌜ now (out .exit) ≡ filled
+        (mapAnswer (records 9 snpNumbers) (answer (snpsReading first (length (now (out .entry)))) (now (s .entry))))
+        (now (out .entry)) ⌝ }
 {
     as_listed(snps::read_snps(s, first, out))
 }

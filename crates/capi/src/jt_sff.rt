@@ -145,7 +145,9 @@ pub extern "C" fn jt_sff_read(s: &[u8], k: u64) -> SffRead
 #[no_mangle]
 pub extern "C" fn jt_sff_reads(s: &[u8], first: u64, out: &mut [u64]) -> Listed
     ensures { λ r. ⌜ r ≡ asListed (mapAnswer length (answer (readsReading first (length (now (out .entry)))) (now (s .entry)))) ⌝ }
-    ensures { λ _. ⌜ now (out .exit) ≡ filled (mapAnswer (records 17 readNumbers) (answer (readsReading first (length (now (out .entry)))) (now (s .entry)))) (now (out .entry)) ⌝ }
+    ensures { λ _. ⌜ now (out .exit) ≡ filled
+        (mapAnswer (records 17 readNumbers) (answer (readsReading first (length (now (out .entry)))) (now (s .entry))))
+        (now (out .entry)) ⌝ }
 {
     as_listed(reads::read_many(s, first, out))
 }

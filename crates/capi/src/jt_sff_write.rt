@@ -8,7 +8,7 @@ ghost use mathlib.Core.Path.{_≡_};
 ghost use mathlib.Core.List.{[]};
 ghost use lib.ListN.{length};
 ghost use Rattle.reading.specs.Check.{answer, mapAnswer};
-ghost use Rattle.sff_write.specs.Read.{givenRead};
+ghost use Rattle.sff_write.specs.Read.{lentRead};
 ghost use Rattle.sff_write.specs.Write.{behind, writtenAt, beginning, adding, finishing};
 ghost use Rattle.sff_write.specs.Answers.{answerOfAdvanced};
 ghost use Rattle.capi.specs.Answers.{asWritten};
@@ -60,8 +60,11 @@ pub extern "C" fn jt_sff_begin(
     key_letters: &[u8],
     out: &mut [u8],
 ) -> SffWriter
-    ensures { λ r. ⌜ r ≡ asWriter (mapAnswer behind (answer (beginning reads (now («flow_letters» .entry)) (now («key_letters» .entry)) (length (now (out .entry)))) [])) ⌝ }
-    ensures { λ _. ⌜ now (out .exit) ≡ writtenAt 0 (answer (beginning reads (now («flow_letters» .entry)) (now («key_letters» .entry)) (length (now (out .entry)))) []) (now (out .entry)) ⌝ }
+    ensures { λ r. ⌜ r ≡ asWriter (mapAnswer behind
+        (answer (beginning reads (now («flow_letters» .entry)) (now («key_letters» .entry)) (length (now (out .entry)))) [])) ⌝ }
+    ensures { λ _. ⌜ now (out .exit) ≡ writtenAt 0
+        (answer (beginning reads (now («flow_letters» .entry)) (now («key_letters» .entry)) (length (now (out .entry)))) [])
+        (now (out .entry)) ⌝ }
 {
     as_writer(write::begin(reads, flow_letters, key_letters, out))
 }
@@ -97,8 +100,19 @@ pub extern "C" fn jt_sff_add(
     adapter_right: u64,
     out: &mut [u8],
 ) -> SffWriter
-    ensures { λ r. ⌜ r ≡ asAdded w (mapAnswer behind (answer (adding (stateOf w) (givenRead (now (name .entry)) (now (flows .entry)) (now (steps .entry)) (now (letters .entry)) (now (qualities .entry)) (clipsOf «quality_left» «quality_right» «adapter_left» «adapter_right»)) (length (now (out .entry)))) [])) ⌝ }
-    ensures { λ _. ⌜ now (out .exit) ≡ writtenAt (w .at) (answer (adding (stateOf w) (givenRead (now (name .entry)) (now (flows .entry)) (now (steps .entry)) (now (letters .entry)) (now (qualities .entry)) (clipsOf «quality_left» «quality_right» «adapter_left» «adapter_right»)) (length (now (out .entry)))) []) (now (out .entry)) ⌝ }
+    ensures { λ r. ⌜ r ≡ asAdded w (mapAnswer behind
+        (answer
+        (adding (stateOf w)
+        (lentRead (name .entry) (flows .entry) (steps .entry) (letters .entry) (qualities .entry)
+        (clipsOf «quality_left» «quality_right» «adapter_left» «adapter_right»))
+        (length (now (out .entry)))) [])) ⌝ }
+    ensures { λ _. ⌜ now (out .exit) ≡ writtenAt (w .at)
+        (answer
+        (adding (stateOf w)
+        (lentRead (name .entry) (flows .entry) (steps .entry) (letters .entry) (qualities .entry)
+        (clipsOf «quality_left» «quality_right» «adapter_left» «adapter_right»))
+        (length (now (out .entry)))) [])
+        (now (out .entry)) ⌝ }
 {
     let clips = Clips {
         quality_left,
