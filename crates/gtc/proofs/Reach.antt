@@ -17,7 +17,7 @@ use Rattle.gtc.specs.declared.item.Stored.{Stored}
 use Rattle.gtc.specs.declared.item.Listing.{Listing}
 use Rattle.gtc.specs.declared.item.Listing.the-variants.{Listed, Unlisted}
 use Rattle.reading.specs.declared.item.ItemData.{ItemData}
-use Rattle.gtc.specs.Table.{Table, tableEnd, identifierCheck, countCheck, table, entryPlace}
+use Rattle.gtc.specs.Table.{Table, tableEnd, markCheck, countCheck, table, entryPlace}
 use Rattle.gtc.specs.Entry.{entryOf}
 use Rattle.gtc.specs.Item.{listingOf, itemCheck, itemEnd}
 use Rattle.gtc.specs.Judge.{Extent, judgeAs, judgeEntry, judgeTable, judging}
@@ -26,9 +26,9 @@ use Rattle.gtc.proofs.entry.Laws.{with-found, with-none-needed, entry-p
 use Rattle.gtc.proofs.item.Laws.{item-end}
 use Rattle.gtc.proofs.lookup.Laws.{listed-ok, lookup-within}
 
-identifier-none : (a b : ℕ) (s : List ℕ) → reach (identifierCheck a b) s ≡ 0
-unfolding identifierCheck
-identifier-none a b s = search (reach-none, reach-must) depth 12
+mark-none : (a b : ℕ) (s : List ℕ) → reach (markCheck a b) s ≡ 0
+unfolding markCheck
+mark-none a b s = search (reach-none, reach-must) depth 12
 
 count-none : (n : ℕ) (s : List ℕ) → reach (countCheck n) s ≡ 0
 unfolding countCheck
@@ -42,7 +42,7 @@ table-reach s t w =
     let d = bind-ok _ _ s t (c .2) in
     let e = bind-ok _ _ s t (d .2) in
     let g = done-ok _ t s (e .2) in
-    simp (b .3, c .3, d .3, e .3, identifier-none, count-none, reach-need, reach-done, ← g) (omega arith)
+    simp (b .3, c .3, d .3, e .3, mark-none, count-none, reach-need, reach-done, ← g) (omega arith)
 
 -- the checks of an entry whose id is listed need no more than x bytes
 abbrev Within : List ℕ → ℕ → List ℕ → ℕ → Entry → Type 0

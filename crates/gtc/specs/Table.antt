@@ -6,12 +6,12 @@ use Rattle.reading.specs.declared.check.Field.{Field}
 use Rattle.reading.specs.declared.check.Rule.the-variants.{Exactly, NotNegative, AtMost}
 use Rattle.reading.specs.Check.{Check, signedField, unsignedField, done, must, need, _>>=_, _>>_}
 
--- the header: the identifier, the version, the number of entries
+-- the header: the mark, the version, the number of entries
 abbrev pub headerSize : ℕ
 headerSize = 8
 
-abbrev pub identifierField : ℕ → Field
-identifierField identifier = unsignedField 3 0 identifier
+abbrev pub markField : ℕ → Field
+markField mark = unsignedField 3 0 mark
 
 abbrev pub versionField : ℕ → Field
 versionField version = unsignedField 1 3 version
@@ -20,16 +20,16 @@ abbrev pub entryCountField : ℕ → Field
 entryCountField count = signedField 4 4 count
 
 -- "gtc", lowest byte first
-abbrev pub gtcIdentifier : ℕ
-gtcIdentifier = 0x637467
+abbrev pub gtcMark : ℕ
+gtcMark = 0x637467
 
 abbrev pub gtcVersion : ℕ
 gtcVersion = 5
 
 -- "gtc" 2, version byte not 5: 3
-unfoldable pub identifierCheck : ℕ → ℕ → Check (Unit {0})
-identifierCheck identifier version = do
-  must (identifierField identifier) (Exactly gtcIdentifier) 2
+unfoldable pub markCheck : ℕ → ℕ → Check (Unit {0})
+markCheck mark version = do
+  must (markField mark) (Exactly gtcMark) 2
   must (versionField version) (Exactly gtcVersion) 3
 
 abbrev pub mostEntries : ℕ
@@ -62,7 +62,7 @@ pub record Table : Type 0 where
 unfoldable pub table : Check Table
 table = do
   header ← need 0 headerSize
-  identifierCheck (le 3 header 0) (le 1 header 3)
+  markCheck (le 3 header 0) (le 1 header 3)
   countCheck (le 4 header 4)
   upTo ← need headerSize (tableEnd (le 4 header 4))
   done (record { count = le 4 header 4; upTo = upTo })

@@ -15,14 +15,14 @@ ghost use Prim.Native.Nat.{ℕ, _≤_};
 ghost use Rattle.reading.specs.Number.{le};
 ghost use Rattle.reading.specs.Check.{run};
 ghost use Rattle.reading.specs.Answers.{outcomeOfTested};
-ghost use Rattle.gtc.specs.Table.{identifierField, versionField, entryCountField, identifierCheck, countCheck, entryPlace, tableEnd, entryCount};
+ghost use Rattle.gtc.specs.Table.{markField, versionField, entryCountField, markCheck, countCheck, entryPlace, tableEnd, entryCount};
 ghost use Rattle.gtc.specs.Answers.{outcomeOfCounted};
 
-// The header: the identifier, the version, the number of entries.
+// The header: the mark, the version, the number of entries.
 const HEADER_SIZE: usize = 8;
 
 // "gtc", lowest byte first.
-const GTC_IDENTIFIER: u32 = 0x637467;
+const GTC_MARK: u32 = 0x637467;
 
 const GTC_VERSION: u8 = 5;
 
@@ -57,10 +57,10 @@ pub(crate) fn table_end(n: usize) -> usize
     entry_place(n)
 }
 
-fn identifier_field(identifier: u32) -> Field
-    ensures { λ r. ⌜ r ≡ identifierField identifier ⌝ }
+fn mark_field(mark: u32) -> Field
+    ensures { λ r. ⌜ r ≡ markField mark ⌝ }
 {
-    unsigned_field(3, 0, identifier as u64)
+    unsigned_field(3, 0, mark as u64)
 }
 
 fn version_field(version: u8) -> Field
@@ -75,15 +75,11 @@ fn entry_count_field(count: u32) -> Field
     signed_field(4, 4, count as u64)
 }
 
-fn identifier_tests(identifier: u32, version: u8) -> Tested
-    ensures { λ r. ⌜ ((l : List ℕ) → outcomeOfTested r ≡ run (identifierCheck identifier version) l) ⌝ }
+fn mark_tests(mark: u32, version: u8) -> Tested
+    ensures { λ r. ⌜ ((l : List ℕ) → outcomeOfTested r ≡ run (markCheck mark version) l) ⌝ }
 {
-    if identifier != GTC_IDENTIFIER {
-        return failed(
-            identifier_field(identifier),
-            Rule::Exactly(GTC_IDENTIFIER as u64),
-            2,
-        );
+    if mark != GTC_MARK {
+        return failed(mark_field(mark), Rule::Exactly(GTC_MARK as u64), 2);
     }
     if version != GTC_VERSION {
         return failed(version_field(version), Rule::Exactly(GTC_VERSION as u64), 3);
@@ -108,7 +104,7 @@ fn count_tests(count: u32) -> Tested
 }
 
 // The first three bytes, lowest first.
-fn identifier_of(h: &[u8]) -> u32
+fn mark_of(h: &[u8]) -> u32
     ensures { λ r. ⌜ r ≡ le 3 (now (h .entry)) 0 ⌝ }
 {
     le16(h, 0) as u32 + 65536 * byte(h, 2) as u32
@@ -122,10 +118,10 @@ pub(crate) fn read_table(s: &[u8]) -> Counted
         return Counted::Short(0, HEADER_SIZE);
     }
     let h = &s[..HEADER_SIZE];
-    let identifier = identifier_of(h);
+    let mark = mark_of(h);
     let version = byte(h, 3);
     let count = le32(h, 4);
-    if let Tested::Failed(t) = identifier_tests(identifier, version) {
+    if let Tested::Failed(t) = mark_tests(mark, version) {
         return Counted::Failed(t);
     }
     if let Tested::Failed(t) = count_tests(count) {

@@ -31,5 +31,5 @@ use Rattle.gtc_records.specs.Snp.{callArrays, intensityArrays, snpArrays, snpBy
 use Rattle.promises.specs.Samples.{twoShorts, threeShorts, monthThirteen, sffHeader, threeBases, noEntries, threeSnps, threeCodes, table, AllHold}
 
 pub samples : AllHold table
-unfolding answer be le signed firstWith oneWith inOrder entryOf hasTag headerCheck boundsCheck directory opening typeOf listedCheck rawCheck sizesCheck placeCheck entryCheck judgeEntry judging dataOf itemOf lookupIn lookingUp wholeAt isDate isTime dateAt timeAt valueAt elementOf elementReading padding padded markCheck lengthCheck indexCheck frontCheck readLengthCheck Header.headerOf Header.header readHeaderAt presentData presentRead framing skipIndex nextRead walk walkPast beforeRead Judge.ending Judge.judgingReads Judge.judging clipsCheck sumsWithin stepsCheck readOf readContents readFrom readIn readReading Table.identifierCheck Table.countCheck Table.table Entry.entryOf Entry.hasId Entry.entryWith listingIn listingOf arrayCount elementsOf snpCheck shapeCheck shapedCheck itemCheck Items.judgeAs Items.judgeEntry Items.unjudgedAmong Items.judgeTable Items.judging Ids.lookupListed Ids.lookupIn Ids.lookingUp lettersFrom meaning decoding callArrays intensityArrays snpArrays snpBytes isBaseCall snpAt snpOf snpReading twoShorts threeShorts monthThirteen sffHeader threeBases noEntries threeSnps threeCodes
+unfolding answer be le signed firstWith oneWith inOrder entryOf hasTag headerCheck boundsCheck directory opening typeOf listedCheck rawCheck sizesCheck placeCheck entryCheck judgeEntry judging dataOf itemOf lookupIn lookingUp wholeAt isDate isTime dateAt timeAt valueAt elementOf elementReading padding padded markCheck lengthCheck indexCheck frontCheck readLengthCheck Header.headerOf Header.header readHeaderAt presentData presentRead framing skipIndex nextRead walk walkPast beforeRead Judge.ending Judge.judgingReads Judge.judging clipsCheck sumsWithin stepsCheck readOf readContents readFrom readIn readReading Table.markCheck Table.countCheck Table.table Entry.entryOf Entry.hasId Entry.entryWith listingIn listingOf arrayCount elementsOf snpCheck shapeCheck shapedCheck itemCheck Items.judgeAs Items.judgeEntry Items.unjudgedAmong Items.judgeTable Items.judging Ids.lookupListed Ids.lookupIn Ids.lookingUp lettersFrom meaning decoding callArrays intensityArrays snpArrays snpBytes isBaseCall snpAt snpOf snpReading twoShorts threeShorts monthThirteen sffHeader threeBases noEntries threeSnps threeCodes
 samples = (refl, (refl, (refl, (refl, (refl, (refl, (refl, (refl, (refl, (refl, (refl, (refl, (refl, (refl, (refl, (refl, (refl, (refl, (refl, (refl, tt))))))))))))))))))))

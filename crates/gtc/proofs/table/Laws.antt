@@ -13,12 +13,12 @@ use Rattle.reading.proofs.Passed.{bind-ok, need-ok, done-ok, bind-refused, bind
 use Rattle.reading.proofs.Width.{byte-le, le-split}
 use Rattle.gtc.specs.declared.table.Counted.{Counted}
 use Rattle.gtc.specs.declared.table.Counted.the-variants.{Count, Failed, Short}
-use Rattle.gtc.specs.Table.{Table, headerSize, tableEnd, identifierCheck, countCheck, table, entryCount}
+use Rattle.gtc.specs.Table.{Table, headerSize, tableEnd, markCheck, countCheck, table, entryCount}
 use Rattle.gtc.specs.Answers.{outcomeOfCounted}
 
--- the identifier, from its two lower bytes and its upper one
-pub identifier-bytes : (h : List ℕ) (a b : ℕ) → a ≡ le 2 h 0 → b ≡ be 1 h 2 → a + 65536 * b ≡ le 3 h 0
-identifier-bytes h a b qa qb =
+-- the mark, from its two lower bytes and its upper one
+pub mark-bytes : (h : List ℕ) (a b : ℕ) → a ≡ le 2 h 0 → b ≡ be 1 h 2 → a + 65536 * b ≡ le 3 h 0
+mark-bytes h a b qa qb =
     let e : le 3 h 0 ≡ le 2 h 0 + le 1 h 2 * 65536 = le-split 2 1 h 0 in
     rw (e, qa, qb, byte-le h 2) (omega arith)
 
@@ -27,7 +27,7 @@ abbrev pub entries : List ℕ → ℕ
 entries s = le 4 (take headerSize s) 4
 
 abbrev pub identified : List ℕ → Outcome (Unit {0})
-identified s = run (identifierCheck (le 3 (take headerSize s) 0) (le 1 (take headerSize s) 3)) s
+identified s = run (markCheck (le 3 (take headerSize s) 0) (le 1 (take headerSize s) 3)) s
 
 abbrev pub numbered : List ℕ → Outcome (Unit {0})
 numbered s = run (countCheck (entries s)) s
@@ -38,9 +38,9 @@ module _ (s : List ℕ) where
   table-short h = simp (run-bind, run-need-absent 0 8 s h)
 
   module _ (h : 8 ≤ length s) where
-    pub table-identifier : (t : Test) → identified s ≡ failed t 0 → failed t 0 ≡ run entryCount s
+    pub table-mark : (t : Test) → identified s ≡ failed t 0 → failed t 0 ≡ run entryCount s
     unfolding entryCount table
-    table-identifier t m = simp (run-need-present 0 8 s h, run-bind, m)
+    table-mark t m = simp (run-need-present 0 8 s h, run-bind, m)
 
     module _ (m : identified s ≡ passed tt) where
       pub table-count : (t : Test) → numbered s ≡ failed t 0 → failed t 0 ≡ run entryCount s

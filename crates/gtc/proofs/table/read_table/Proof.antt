@@ -4,7 +4,7 @@ use Rattle.gtc.proofs.table.read_table.Tie as tie
 use native.Mathlib.Omega.{arith}
 use lib.ListN.{length-take}
 use Rattle.reading.proofs.Width.{byte-le}
-use Rattle.gtc.proofs.table.Laws.{table-short, table-identifier, table-count, table-cut, table-whole}
+use Rattle.gtc.proofs.table.Laws.{table-short, table-mark, table-count, table-cut, table-whole}
 use Prim.Native.Nat.{ℕ}
 use mathlib.Core.Path.{_≡_, _∙_, ap}
 use Rattle.reading.specs.Check.{passed, short}
@@ -17,8 +17,8 @@ returns c = table-short _ (c .if1 .taken)
 slice-aggregate-h : tie.Need-slice-aggregate-h
 slice-aggregate-h c = simp length-take (omega arith)
 
-identifier-of-requires : tie.Need-identifier-of-requires
-identifier-of-requires c κs = search needs
+mark-of-requires : tie.Need-mark-of-requires
+mark-of-requires c κs = search needs
 
 byte-requires : tie.Need-byte-requires
 byte-requires c κs = search needs
@@ -26,8 +26,8 @@ byte-requires c κs = search needs
 le32-requires : tie.Need-le32-requires
 le32-requires c κs = search needs
 
-identifier-tests-requires : tie.Need-identifier-tests-requires
-identifier-tests-requires c κs = search needs
+mark-tests-requires : tie.Need-mark-tests-requires
+mark-tests-requires c κs = search needs
 
 enum-known-t : tie.Need-enum-known-t
 enum-known-t c = search needs
@@ -37,7 +37,7 @@ returns-2 c =
     let t = c .before .before .before in
     let a = t .before in
     let s = a .before .before .before .before .before .before .args .s .now in
-    table-identifier s (a .before .before .before .before .if1 .left) _ (rw (← a .before .before .identifier-of .ensures, ← byte-le, ← a .before .byte .ensures, ← t .identifier-tests .ensures s, c .before .t .given .1))
+    table-mark s (a .before .before .before .before .if1 .left) _ (rw (← a .before .before .mark-of .ensures, ← byte-le, ← a .before .byte .ensures, ← t .mark-tests .ensures s, c .before .t .given .1))
 
 enum-told : tie.Need-enum-told
 enum-told c = search needs
@@ -54,7 +54,7 @@ returns-3 c =
     let t = k .before .before .before in
     let a = t .before in
     let s = a .before .before .before .before .before .before .args .s .now in
-    table-count s (a .before .before .before .before .if1 .left) (rw (← a .before .before .identifier-of .ensures, ← byte-le, ← a .before .byte .ensures, ← t .identifier-tests .ensures s, k .before .enum-told .given .1)) _ (rw (← a .le32 .ensures, ← k .count-tests .ensures s, c .before .t2 .given .1))
+    table-count s (a .before .before .before .before .if1 .left) (rw (← a .before .before .mark-of .ensures, ← byte-le, ← a .before .byte .ensures, ← t .mark-tests .ensures s, k .before .enum-told .given .1)) _ (rw (← a .le32 .ensures, ← k .count-tests .ensures s, c .before .t2 .given .1))
 
 enum-told-2 : tie.Need-enum-told-2
 enum-told-2 c = search needs
@@ -72,7 +72,7 @@ returns-4 c =
     let a = t .before in
     let s = a .before .before .before .before .before .before .args .s .now in
     let e : c .before .table-end .result ≡ tableEnd (entries s) = c .before .table-end .ensures ∙ ap tableEnd (a .le32 .ensures) in
-    let m : identified s ≡ passed tt = rw (← a .before .before .identifier-of .ensures, ← byte-le, ← a .before .byte .ensures, ← t .identifier-tests .ensures s, k .before .enum-told .given .1) in
+    let m : identified s ≡ passed tt = rw (← a .before .before .mark-of .ensures, ← byte-le, ← a .before .byte .ensures, ← t .mark-tests .ensures s, k .before .enum-told .given .1) in
     let n : numbered s ≡ passed tt = rw (← a .le32 .ensures, ← k .count-tests .ensures s, c .before .before .enum-told2 .given .1) in
     ap (λ (x : ℕ). short (record { start = headerSize; end = x }) 0) e ∙ table-cut s (a .before .before .before .before .if1 .left) m n (rw (← e) (c .if2 .taken))
 
@@ -83,7 +83,7 @@ returns-5 c =
     let a = t .before in
     let s = a .before .before .before .before .before .before .args .s .now in
     let e : c .before .table-end .result ≡ tableEnd (entries s) = c .before .table-end .ensures ∙ ap tableEnd (a .le32 .ensures) in
-    let m : identified s ≡ passed tt = rw (← a .before .before .identifier-of .ensures, ← byte-le, ← a .before .byte .ensures, ← t .identifier-tests .ensures s, k .before .enum-told .given .1) in
+    let m : identified s ≡ passed tt = rw (← a .before .before .mark-of .ensures, ← byte-le, ← a .before .byte .ensures, ← t .mark-tests .ensures s, k .before .enum-told .given .1) in
     let n : numbered s ≡ passed tt = rw (← a .le32 .ensures, ← k .count-tests .ensures s, c .before .before .enum-told2 .given .1) in
     ap passed (a .le32 .ensures) ∙ table-whole s (a .before .before .before .before .if1 .left) m n (rw (← e) (c .if2 .left))
 
@@ -93,10 +93,10 @@ read-table-spec =
     (tie.spec
     returns
     slice-aggregate-h
-    identifier-of-requires
+    mark-of-requires
     byte-requires
     le32-requires
-    identifier-tests-requires
+    mark-tests-requires
     enum-known-t
     returns-2
     enum-told

@@ -1,12 +1,12 @@
 use borrow.Author.Needs.{needs}
-use Rattle.gtc.proofs.table.identifier_tests.Statement.{statement}
-use Rattle.gtc.proofs.table.identifier_tests.Tie as tie
+use Rattle.gtc.proofs.table.mark_tests.Statement.{statement}
+use Rattle.gtc.proofs.table.mark_tests.Tie as tie
 use Rattle.reading.specs.Check.{run}
 use Rattle.reading.proofs.Tests.{tests}
-use Rattle.gtc.specs.Table.{identifierCheck}
+use Rattle.gtc.specs.Table.{markCheck}
 
-identifier-field-requires : tie.Need-identifier-field-requires
-identifier-field-requires c κs = search needs
+mark-field-requires : tie.Need-mark-field-requires
+mark-field-requires c κs = search needs
 
 cast-t5 : tie.Need-cast-t5
 cast-t5 c = search needs
@@ -15,8 +15,8 @@ failed-requires : tie.Need-failed-requires
 failed-requires c κs = search needs
 
 returns : tie.Need-returns
-unfolding identifierCheck run
-returns c l = search (tests, c .failed .ensures, c .before .identifier-field .ensures)
+unfolding markCheck run
+returns c l = search (tests, c .failed .ensures, c .before .mark-field .ensures)
 
 version-field-requires : tie.Need-version-field-requires
 version-field-requires c κs = search needs
@@ -28,18 +28,18 @@ failed-requires-2 : tie.Need-failed-requires-2
 failed-requires-2 c κs = search needs
 
 returns-2 : tie.Need-returns-2
-unfolding identifierCheck run
+unfolding markCheck run
 returns-2 c l = search (tests, c .failed2 .ensures, c .before .version-field .ensures)
 
 returns-3 : tie.Need-returns-3
-unfolding identifierCheck run
+unfolding markCheck run
 returns-3 c l = search tests
 
-pub identifier-tests-spec : {M : Type 1} → statement M
-identifier-tests-spec =
+pub mark-tests-spec : {M : Type 1} → statement M
+mark-tests-spec =
     tie.close
     (tie.spec
-    identifier-field-requires
+    mark-field-requires
     cast-t5
     failed-requires
     returns

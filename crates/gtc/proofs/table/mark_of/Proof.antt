@@ -1,7 +1,7 @@
 use borrow.Author.Needs.{needs}
-use Rattle.gtc.proofs.table.identifier_of.Statement.{statement}
-use Rattle.gtc.proofs.table.identifier_of.Tie as tie
-use Rattle.gtc.proofs.table.Laws.{identifier-bytes}
+use Rattle.gtc.proofs.table.mark_of.Statement.{statement}
+use Rattle.gtc.proofs.table.mark_of.Tie as tie
+use Rattle.gtc.proofs.table.Laws.{mark-bytes}
 
 le16-requires : tie.Need-le16-requires
 le16-requires c κs = search needs
@@ -22,9 +22,9 @@ add-result : tie.Need-add-result
 add-result c = search needs
 
 returns : tie.Need-returns
-returns c = identifier-bytes _ _ _ (c .before .le16 .ensures) (c .byte .ensures)
+returns c = mark-bytes _ _ _ (c .before .le16 .ensures) (c .byte .ensures)
 
-pub identifier-of-spec : {M : Type 1} → statement M
-identifier-of-spec =
+pub mark-of-spec : {M : Type 1} → statement M
+mark-of-spec =
     tie.close
     (tie.spec le16-requires cast-result byte-requires cast-result-2 mul-result add-result returns)
