@@ -32,7 +32,7 @@ pub record PresentRead : Type 0 where
 -- header length 9; header present 1; data present 1
 unfoldable pub presentData : ℕ → ReadHeader → Check PresentRead
 presentData flows read = do
-  readLengthCheck read
+  readLengthCheck (read .start) (read .«header_length») (read .«name_length»)
   _ ← need (read .start) (dataStart read)
   upTo ← need (dataStart read) (readEnd flows read)
   done (record { fields = read; upTo = upTo })

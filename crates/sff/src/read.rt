@@ -30,7 +30,7 @@ pub(crate) fn read_header_of(h: &[u8], p: usize) -> ReadHeader
     }
 }
 
-// Where the read that starts at p ends.
+// Where the read that starts at p ends. Only the fields that are compared are read.
 pub(crate) fn frame(s: &[u8], flows: u16, p: usize) -> Ended
     requires { ⌜ p ≤ length (now s) ⌝ }
     ensures { λ r. ⌜ outcomeOfEnded r ≡ run (framing flows p) (now (s .entry)) ⌝ }
@@ -39,15 +39,18 @@ pub(crate) fn frame(s: &[u8], flows: u16, p: usize) -> Ended
     if s.len() < fixed {
         return Ended::Short(p, fixed);
     }
-    let d = read_header_of(&s[p..fixed], p);
-    if let Tested::Failed(t) = read_length_tests(d) {
+    let h = &s[p..fixed];
+    let stated = be16(h, 0);
+    let name = be16(h, 2);
+    let bases = be32(h, 4);
+    if let Tested::Failed(t) = read_length_tests(p, stated, name) {
         return Ended::Failed(t);
     }
-    let start = p + d.header_length as usize;
+    let start = p + stated as usize;
     if s.len() < start {
         return Ended::Short(p, start);
     }
-    let end = start + data_length(flows, d.bases);
+    let end = start + data_length(flows, bases);
     if s.len() < end {
         return Ended::Short(start, end);
     }

@@ -10,12 +10,13 @@ use Rattle.sff_fields.specs.Padding.{padded}
 abbrev pub readFrontLength : ℕ
 readFrontLength = 16
 
-abbrev pub readHeaderLength : ReadHeader → Field
-readHeaderLength read = unsignedField 2 (read .start) (read .«header_length»)
+-- the header length of a read that starts here
+abbrev pub readHeaderLength : ℕ → ℕ → Field
+readHeaderLength start headerLength = unsignedField 2 start headerLength
 
 -- header length not (16 + name length) rounded up to 8: 9
-unfoldable pub readLengthCheck : ReadHeader → Check (Unit {0})
-readLengthCheck read = must (readHeaderLength read) (EqualTo (padded (readFrontLength + read .«name_length»))) 9
+unfoldable pub readLengthCheck : ℕ → ℕ → ℕ → Check (Unit {0})
+readLengthCheck start headerLength nameLength = must (readHeaderLength start headerLength) (EqualTo (padded (readFrontLength + nameLength))) 9
 
 -- the data are 2 x flows + 3 x bases bytes, rounded up to 8
 abbrev pub dataLength : ℕ → ℕ → ℕ

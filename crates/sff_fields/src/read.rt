@@ -27,23 +27,20 @@ pub struct ReadHeader {
     pub adapter_right: u16,
 }
 
-fn read_header_length_field(d: ReadHeader) -> Field
-    ensures { λ r. ⌜ r ≡ readHeaderLength d ⌝ }
+fn read_header_length_field(start: usize, stated: u16) -> Field
+    ensures { λ r. ⌜ r ≡ readHeaderLength start stated ⌝ }
 {
-    unsigned_field(2, d.start, d.header_length as u64)
+    unsigned_field(2, start, stated as u64)
 }
 
-// The check of a read's header length.
-pub fn read_length_tests(d: ReadHeader) -> Tested
-    ensures { λ r. ⌜ ((l : List ℕ) → outcomeOfTested r ≡ run (readLengthCheck d) l) ⌝ }
+// The check of the header length that a read states which starts here and has a name of so many bytes.
+pub fn read_length_tests(start: usize, stated: u16, name: u16) -> Tested
+    ensures { λ r. ⌜ ((l : List ℕ) → outcomeOfTested r ≡ run (readLengthCheck start stated name) l) ⌝ }
 {
-    let expected = round_up(READ_FRONT_LENGTH + d.name_length as usize);
-    if (d.header_length as usize) != expected {
-        return failed(
-            read_header_length_field(d),
-            Rule::EqualTo(expected as u64),
-            9,
-        );
+    let expected = round_up(READ_FRONT_LENGTH + name as usize);
+    if (stated as usize) != expected {
+        let field = read_header_length_field(start, stated);
+        return failed(field, Rule::EqualTo(expected as u64), 9);
     }
     Tested::Passed
 }

@@ -50,27 +50,30 @@ module _ (f p : ℕ) (s : List ℕ) where
   unfolding framing presentRead
   frame-short h = simp (run-bind, run-need-absent p (p + 16) s h)
 
-  module _ (h : p + 16 ≤ length s) (d : ReadHeader) (e : d ≡ fields s p) where
-    start-is : d .start ≡ p
-    start-is = ap (λ (x : ReadHeader). x .start) e ∙ field-start p s
+  module _ (h : p + 16 ≤ length s) (a n b : ℕ) (ea : a ≡ be 2 (fixed s p) 0) (en : n ≡ be 2 (fixed s p) 2) (eb : b ≡ be 4 (fixed s p) 4) where
+    known : (fields s p .«header_length» ≡ a) × (fields s p .«name_length» ≡ n) × (fields s p .bases ≡ b)
+    unfolding readHeaderAt
+    known =
+        let z : p + 0 ≡ p = omega arith in
+        (sym (ea ∙ field 2 0 p s (omega arith) ∙ ap (be 2 (take (p + 16) s)) z), sym (en ∙ field 2 2 p s (omega arith)), sym (eb ∙ field 4 4 p s (omega arith)))
 
-    pub frame-bad : (t : Test) → run (readLengthCheck d) s ≡ failed t 0 → failed t 0 ≡ run (framing f p) s
+    pub frame-bad : (t : Test) → run (readLengthCheck p a n) s ≡ failed t 0 → failed t 0 ≡ run (framing f p) s
     unfolding framing presentRead presentData
-    frame-bad t q = simp (run-bind, run-need-present p (p + 16) s h, ← e, q)
+    frame-bad t q = simp (run-bind, run-need-present p (p + 16) s h, field-start p s, known .0, known .1, q)
 
-    module _ (q : run (readLengthCheck d) s ≡ passed tt) where
-      pub frame-header : length s < p + d .«header_length» → short (record { start = p; end = p + d .«header_length» }) 0 ≡ run (framing f p) s
+    module _ (q : run (readLengthCheck p a n) s ≡ passed tt) where
+      pub frame-header : length s < p + a → short (record { start = p; end = p + a }) 0 ≡ run (framing f p) s
       unfolding framing presentRead presentData
-      frame-header l = simp (run-bind, run-need-present p (p + 16) s h, ← e, q, start-is, run-need-absent p (p + d .«header_length») s l)
+      frame-header l = simp (run-bind, run-need-present p (p + 16) s h, field-start p s, known .0, known .1, q, run-need-absent p (p + a) s l)
 
-      module _ (l : p + d .«header_length» ≤ length s) (m : ℕ) (k : m ≡ p + d .«header_length» + dataLength f (d .bases)) where
-        pub frame-data : length s < m → short (record { start = p + d .«header_length»; end = m }) 0 ≡ run (framing f p) s
+      module _ (l : p + a ≤ length s) (m : ℕ) (k : m ≡ p + a + dataLength f b) where
+        pub frame-data : length s < m → short (record { start = p + a; end = m }) 0 ≡ run (framing f p) s
         unfolding framing presentRead presentData
-        frame-data g = simp (run-bind, run-need-present p (p + 16) s h, ← e, q, start-is, run-need-present p (p + d .«header_length») s l, ← k, run-need-absent (p + d .«header_length») m s g)
+        frame-data g = simp (run-bind, run-need-present p (p + 16) s h, field-start p s, known .0, known .1, known .2, q, run-need-present p (p + a) s l, ← k, run-need-absent (p + a) m s g)
 
         pub frame-end : m ≤ length s → passed m ≡ run (framing f p) s
         unfolding framing presentRead presentData
-        frame-end g = simp (run-bind, run-need-present p (p + 16) s h, ← e, q, start-is, run-need-present p (p + d .«header_length») s l, ← k, run-need-present (p + d .«header_length») m s g, run-done)
+        frame-end g = simp (run-bind, run-need-present p (p + 16) s h, field-start p s, known .0, known .1, known .2, q, run-need-present p (p + a) s l, ← k, run-need-present (p + a) m s g, run-done)
 
 -- what the checks have shown of a read that is there
 pub record There (f p : ℕ) (s : List ℕ) (r : PresentRead) : Type 0 where
