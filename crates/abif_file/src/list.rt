@@ -31,7 +31,7 @@ pub(crate) fn fill(s: &[u8], out: &mut [RawEntry], n: usize)
     }
 }
 
-// What a list of this room is told.
+// What listing answers for a list of this room.
 pub(crate) fn list_answer(s: &[u8], room: usize) -> Copied
     ensures { λ r. ⌜ answerOfCopied r ≡ mapAnswer length (answer (listing room) (now (s .entry))) ⌝ }
 {

@@ -97,7 +97,7 @@ pub fn text_part(s: &[u8], place: u64, count: u64, name: u32, number: u32) -> &[
     }
 }
 
-// What a list of this room is told.
+// What listing answers for a list of this room.
 pub(crate) fn list_answer(s: &[u8], place: u64, count: u64, room: usize) -> Copied
     ensures { λ r. ⌜ answerOfCopied r ≡ mapAnswer length (answer (ofOpened place count (listing room)) (now (s .entry))) ⌝ }
 {

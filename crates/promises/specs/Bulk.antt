@@ -10,11 +10,9 @@ use Rattle.reading.specs.Check.{Check, Answer, ok, refused, answer}
 use Rattle.reading.specs.Bulk.{recordOf, records, OfItem}
 use Rattle.abif_elements.specs.Element.{Value, whole, single, double, date, time, bool, thumb, elementReading}
 use Rattle.abif_elements.specs.Numbers.{numbersReading}
-use Rattle.sff_fields.specs.declared.parts.Read.{Read}
 use Rattle.sff.specs.Lookup.{readReading}
 use Rattle.sff.specs.Reads.{readsReading}
 use Rattle.sff_fields.specs.Parts.{readNumbers}
-use Rattle.gtc_records.specs.declared.snp.Snp.{Snp}
 use Rattle.gtc_records.specs.Snp.{snpReading}
 use Rattle.gtc_records.specs.Snps.{snpsReading, snpNumbers}
 

@@ -28,6 +28,7 @@ fn le16_inside(s: &[u8], p: usize) -> u16
     wide16(s[p]) + 256 * wide16(s[p + 1])
 }
 
+// The little-endian number of 2 bytes at place p.
 pub fn le16(s: &[u8], p: usize) -> u16
     ensures { λ r. ⌜ r ≡ le 2 (now (s .entry)) p ⌝ }
 {
@@ -59,6 +60,7 @@ fn le32_past(s: &[u8], p: usize) -> u32
     low + 65536 * high
 }
 
+// The little-endian number of 4 bytes at place p.
 pub fn le32(s: &[u8], p: usize) -> u32
     ensures { λ r. ⌜ r ≡ le 4 (now (s .entry)) p ⌝ }
 {
@@ -70,7 +72,7 @@ pub fn le32(s: &[u8], p: usize) -> u32
     le32_past(s, p)
 }
 
-// A big-endian number is the little-endian one with its bytes in the other order; read so, a loop over it takes several at once.
+// The big-endian number of 2 bytes at place p: the little-endian one with its bytes in the other order. Read so, a loop over it takes several at once.
 pub fn be16(s: &[u8], p: usize) -> u16
     ensures { λ r. ⌜ r ≡ be 2 (now (s .entry)) p ⌝ }
 {
@@ -78,6 +80,7 @@ pub fn be16(s: &[u8], p: usize) -> u16
     256 * (x % 256) + x / 256
 }
 
+// The big-endian number of 4 bytes at place p.
 pub fn be32(s: &[u8], p: usize) -> u32
     ensures { λ r. ⌜ r ≡ be 4 (now (s .entry)) p ⌝ }
 {
@@ -85,6 +88,7 @@ pub fn be32(s: &[u8], p: usize) -> u32
     16777216 * (x % 256) + 65536 * (x / 256 % 256) + 256 * (x / 65536 % 256) + x / 16777216
 }
 
+// The big-endian number of 8 bytes at place p.
 pub fn be64(s: &[u8], p: usize) -> u64
     ensures { λ r. ⌜ r ≡ be 8 (now (s .entry)) p ⌝ }
 {

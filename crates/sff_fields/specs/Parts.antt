@@ -1,4 +1,4 @@
--- SFF: all that is told of a read, and where its parts stand.
+-- SFF: all that is answered of a read, and where its parts stand.
 use Prim.Native.Nat.{ℕ, _+_, _*_}
 use mathlib.Core.List.{List, [], _∷_}
 use Rattle.reading.specs.Part.{Span}
@@ -9,7 +9,7 @@ use Rattle.sff_fields.specs.declared.parts.ReadPart.the-variants.{Name, 
 use Rattle.sff_fields.specs.Read.{readFrontLength, flowsStart, stepsStart, lettersStart, qualitiesStart}
 use Rattle.sff_fields.specs.Clips.{firstBase, lastBase, insert}
 
--- all that is told of a read with these header fields, in a file of so many flows
+-- all that is answered of a read with these header fields, in a file of so many flows
 unfoldable pub readOf : ℕ → ReadHeader → Read
 readOf flows read =
     record {

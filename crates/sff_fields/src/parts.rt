@@ -1,9 +1,9 @@
-// All that is told of a read, and where its parts stand.
+// All that is answered of a read, and where its parts stand.
 use crate::position::BasePosition;
 ghost use mathlib.Core.Path.{_≡_};
 ghost use Rattle.sff_fields.specs.Parts.{spanOf};
 
-// All that is told of a read: its header's fields, where its parts start, and the first and last base of its insert.
+// All that is answered of a read: its header's fields, where its parts start, and the first and last base of its insert.
 pub struct Read {
     pub start: usize,
     pub name_start: usize,
