@@ -22,8 +22,8 @@ use Rattle.sff.specs.Walk.{Placed}
 
 -- the header, with the reason
 abbrev pub outcomeOfHeaderRead : HeaderRead → Outcome Header
-outcomeOfHeaderRead (header.Good d) = passed d
-outcomeOfHeaderRead (header.Bad w) = failed w 0
+outcomeOfHeaderRead (header.At d) = passed d
+outcomeOfHeaderRead (header.Failed w) = failed w 0
 outcomeOfHeaderRead (header.Short p m) = short (record { start = p; end = m }) 0
 
 -- the header
@@ -39,14 +39,14 @@ outcomeOfSkipped (skipped.Short p m) = short (record { start = p; end = m }) 0
 -- the next read, which is read i
 abbrev pub outcomeOfStep : ℕ → Step → Outcome Placed
 outcomeOfStep i (step.Next p b) = passed (record { start = p; behind = b })
-outcomeOfStep i (step.Bad w) = failed w (i + 1)
+outcomeOfStep i (step.Failed w) = failed w (i + 1)
 outcomeOfStep i (step.Short p m) = short (record { start = p; end = m }) (i + 1)
 outcomeOfStep i (step.ShortIndex p m) = short (record { start = p; end = m }) 0
 
 -- a walk
 abbrev pub outcomeOfWalked : Walked → Outcome Boundary
 outcomeOfWalked (walked.Behind b) = passed b
-outcomeOfWalked (walked.Bad w e) = failed w e
+outcomeOfWalked (walked.Failed w e) = failed w e
 outcomeOfWalked (walked.Short p m e) = short (record { start = p; end = m }) e
 
 -- a walk, without the reason

@@ -32,8 +32,8 @@ pub enum HeaderFound {
 
 // The same, with the reason: the first test that fails, or the bytes that are missing, by their start and end.
 pub(crate) enum HeaderRead {
-    Good(Header),
-    Bad(Test),
+    At(Header),
+    Failed(Test),
     Short(usize, usize),
 }
 
@@ -65,13 +65,13 @@ pub(crate) fn read_header(s: &[u8]) -> HeaderRead
     let code = byte(h, CODE_PLACE);
     let d = header_of(h);
     if let Tested::Failed(t) = front_tests(mark, version, code, d) {
-        return HeaderRead::Bad(t);
+        return HeaderRead::Failed(t);
     }
     let end = d.header_length as usize;
     if s.len() < end {
         return HeaderRead::Short(0, end);
     }
-    HeaderRead::Good(d)
+    HeaderRead::At(d)
 }
 
 // The fields of the common header.
@@ -79,8 +79,8 @@ pub fn read_fields(s: &[u8]) -> HeaderFound
     ensures { λ r. ⌜ answerOfHeaderFound r ≡ answer header (now (s .entry)) ⌝ }
 {
     match read_header(s) {
-        HeaderRead::Good(d) => HeaderFound::At(d),
-        HeaderRead::Bad(t) => HeaderFound::Refused(t.number),
+        HeaderRead::At(d) => HeaderFound::At(d),
+        HeaderRead::Failed(t) => HeaderFound::Refused(t.number),
         HeaderRead::Short(_, _) => HeaderFound::Refused(1),
     }
 }

@@ -60,7 +60,7 @@ fn explain_reads(s: &[u8], d: Header) -> Explanation
         met: false,
     };
     match walk(s, d, d.reads as usize, 0, front) {
-        Walked::Bad(test, entry) => Explanation::Failed { test, entry },
+        Walked::Failed(test, entry) => Explanation::Failed { test, entry },
         Walked::Short(start, least, entry) => Explanation::Short {
             start,
             least,
@@ -75,13 +75,13 @@ fn explain(s: &[u8]) -> Explanation
     ensures { λ r. ⌜ r ≡ explanationOf (run judging (now (s .entry))) ⌝ }
 {
     match read_header(s) {
-        HeaderRead::Bad(test) => Explanation::Failed { test, entry: 0 },
+        HeaderRead::Failed(test) => Explanation::Failed { test, entry: 0 },
         HeaderRead::Short(start, least) => Explanation::Short {
             start,
             least,
             entry: 0,
         },
-        HeaderRead::Good(d) => explain_reads(s, d),
+        HeaderRead::At(d) => explain_reads(s, d),
     }
 }
 

@@ -38,7 +38,7 @@ fn sound_read(s: &[u8], d: Header, b: Boundary) -> Sound
 {
     match next_read(s, d, b) {
         Step::Next(start, behind) => Sound { start, behind },
-        Step::Bad(_) => Sound {
+        Step::Failed(_) => Sound {
             start: 0,
             behind: b,
         },
@@ -122,13 +122,13 @@ fn reads_from(s: &[u8], d: Header, n: usize, i: usize, out: &mut [u64]) -> Copie
         met: false,
     };
     match walk(s, d, i, 0, front) {
-        Walked::Bad(test, _) => Copied::Refused(test.number),
+        Walked::Failed(test, _) => Copied::Refused(test.number),
         Walked::Short(_, _, _) => Copied::Refused(1),
         Walked::Behind(b) => match walk(s, d, half, i, b) {
-            Walked::Bad(test, _) => Copied::Refused(test.number),
+            Walked::Failed(test, _) => Copied::Refused(test.number),
             Walked::Short(_, _, _) => Copied::Refused(1),
             Walked::Behind(c) => match walk(s, d, n - half, i + half, c) {
-                Walked::Bad(test, _) => Copied::Refused(test.number),
+                Walked::Failed(test, _) => Copied::Refused(test.number),
                 Walked::Short(_, _, _) => Copied::Refused(1),
                 Walked::Behind(_) => {
                     put_halves(s, d, n, half, b, c, out);

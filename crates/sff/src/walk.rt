@@ -26,7 +26,7 @@ pub(crate) enum Skipped {
 // The next read's place, with the boundary behind it; or the test that fails, or the bytes that are missing, of the read or of the index.
 pub(crate) enum Step {
     Next(usize, Boundary),
-    Bad(Test),
+    Failed(Test),
     Short(usize, usize),
     ShortIndex(usize, usize),
 }
@@ -34,7 +34,7 @@ pub(crate) enum Step {
 // The boundary behind the reads; or the same refusals, with the read, or 0 for the index.
 pub(crate) enum Walked {
     Behind(Boundary),
-    Bad(Test, usize),
+    Failed(Test, usize),
     Short(usize, usize, usize),
 }
 
@@ -73,7 +73,7 @@ pub(crate) fn next_read(s: &[u8], d: Header, b: Boundary) -> Step
         Skipped::To(c) => {
             let start = c.position;
             match frame(s, d.flows, start) {
-                Ended::Failed(test) => Step::Bad(test),
+                Ended::Failed(test) => Step::Failed(test),
                 Ended::Short(missing, end) => Step::Short(missing, end),
                 Ended::At(end) => Step::Next(
                     start,
@@ -96,8 +96,8 @@ pub(crate) fn walk(s: &[u8], d: Header, n: usize, i: usize, b: Boundary) -> Walk
     let mut j = 0;
     while j < n {
         match next_read(s, d, here) {
-            Step::Bad(test) => {
-                return Walked::Bad(test, i + j + 1);
+            Step::Failed(test) => {
+                return Walked::Failed(test, i + j + 1);
             }
             Step::Short(start, end) => {
                 return Walked::Short(start, end, i + j + 1);
@@ -130,7 +130,7 @@ pub(crate) fn walk_to(s: &[u8], d: Header, k: u64) -> Reached
         met: false,
     };
     match walk(s, d, (k - 1) as usize, 0, front) {
-        Walked::Bad(test, _) => Reached::Refused(test.number),
+        Walked::Failed(test, _) => Reached::Refused(test.number),
         Walked::Short(_, _, _) => Reached::Refused(1),
         Walked::Behind(b) => Reached::At(b),
     }
