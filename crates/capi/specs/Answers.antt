@@ -10,10 +10,10 @@ use Rattle.capi.specs.declared.answers.Part.{Part}
 use Rattle.capi.specs.declared.answers.Listed.{Listed}
 use Rattle.capi.specs.declared.answers.Written.{Written}
 
--- judging's extent, of a format that has no unjudged entries
-abbrev pub asVerdict : Answer ℕ → Verdict
-asVerdict (ok x) = record { refusal = 0; entry = 0; extent = x; unjudged = 0 }
-asVerdict (refused n e) = record { refusal = n; entry = e; extent = 0; unjudged = 0 }
+-- judging's extent and tail, of a format that has no unjudged entries
+abbrev pub asVerdict : Answer (ℕ × ℕ) → Verdict
+asVerdict (ok v) = record { refusal = 0; entry = 0; extent = v .0; unjudged = 0; tail = v .1 }
+asVerdict (refused n e) = record { refusal = n; entry = e; extent = 0; unjudged = 0; tail = 0 }
 
 -- the item that lookup finds
 abbrev pub asItem : Answer ItemData → Item

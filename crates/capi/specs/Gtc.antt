@@ -12,10 +12,10 @@ use Rattle.capi.specs.declared.answers.Snp.{Snp}
 use Rattle.capi.specs.declared.answers.TransformationAnswer.{TransformationAnswer}
 use Rattle.capi.specs.Answers.{zero32}
 
--- judging's extent, and the number of entries that are not judged
-abbrev pub asJudged : Answer Extent → Verdict
-asJudged (ok x) = record { refusal = 0; entry = 0; extent = x .extent; unjudged = x .unjudged }
-asJudged (refused n e) = record { refusal = n; entry = e; extent = 0; unjudged = 0 }
+-- judging's extent, the number of entries that are not judged, and the tail
+abbrev pub asJudged : Answer (Extent × ℕ) → Verdict
+asJudged (ok v) = record { refusal = 0; entry = 0; extent = v .0 .extent; unjudged = v .0 .unjudged; tail = v .1 }
+asJudged (refused n e) = record { refusal = n; entry = e; extent = 0; unjudged = 0; tail = 0 }
 
 -- a SNP's record
 abbrev pub snpStruct : snp.Snp → Snp

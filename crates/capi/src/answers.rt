@@ -9,13 +9,14 @@ ghost use Rattle.reading.specs.Answers.{answerOfVerdict, answerOfFound, answerO
 ghost use Rattle.writing.specs.Answers.{answerOfWritten};
 ghost use Rattle.capi.specs.Answers.{asVerdict, asItem, asListed, asWritten};
 
-// What judging finds; `unjudged` counts a GTC file's entries that are not judged.
+// What judging finds; `unjudged` counts a GTC file's entries that are not judged, and `tail` the bytes after the extent.
 #[repr(C)]
 pub struct Verdict {
     pub refusal: u64,
     pub entry: u64,
     pub extent: u64,
     pub unjudged: u64,
+    pub tail: u64,
 }
 
 // An ABIF file's directory.
@@ -156,17 +157,19 @@ pub(crate) fn as_verdict(v: verdict::Verdict) -> Verdict
     ensures { λ r. ⌜ r ≡ asVerdict (answerOfVerdict v) ⌝ }
 {
     match v {
-        verdict::Verdict::Whole(x) => Verdict {
+        verdict::Verdict::Whole { extent, tail } => Verdict {
             refusal: 0,
             entry: 0,
-            extent: x as u64,
+            extent: extent as u64,
             unjudged: 0,
+            tail: tail as u64,
         },
         verdict::Verdict::Refused { number, entry } => Verdict {
             refusal: number as u64,
             entry: entry as u64,
             extent: 0,
             unjudged: 0,
+            tail: 0,
         },
     }
 }

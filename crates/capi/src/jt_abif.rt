@@ -19,6 +19,7 @@ ghost use mathlib.Core.Path.{_≡_};
 ghost use lib.ListN.{length};
 ghost use Rattle.reading.specs.Number.{bits};
 ghost use Rattle.reading.specs.Check.{answer, mapAnswer};
+ghost use Rattle.reading.specs.Verdict.{verdictOf};
 ghost use Rattle.abif.specs.Directory.{opening};
 ghost use Rattle.abif.specs.Answers.{answerOfOpened};
 ghost use Rattle.abif.specs.Judge.{judging};
@@ -31,10 +32,10 @@ ghost use Rattle.abif_elements.specs.Numbers.{numbersReading};
 ghost use Rattle.capi.specs.Answers.{asVerdict, asItem, asPart, asListed};
 ghost use Rattle.capi.specs.Abif.{asOpened, asElement, numberElement, fieldsElement, singleElement, doubleElement, refusedElement};
 
-// Whether the bytes are a whole ABIF file, with its extent.
+// Whether the bytes are a whole ABIF file, with its extent and its tail.
 #[no_mangle]
 pub extern "C" fn jt_abif_judge(s: &[u8]) -> Verdict
-    ensures { λ r. ⌜ r ≡ asVerdict (answer judging (now (s .entry))) ⌝ }
+    ensures { λ r. ⌜ r ≡ asVerdict (verdictOf judging (λ x. x) (now (s .entry))) ⌝ }
 {
     as_verdict(judge::judge(s))
 }

@@ -19,6 +19,7 @@ use gtc_records::transformation::Transformation;
 ghost use mathlib.Core.Path.{_≡_};
 ghost use lib.ListN.{length};
 ghost use Rattle.reading.specs.Check.{answer, mapAnswer};
+ghost use Rattle.reading.specs.Verdict.{verdictOf};
 ghost use Rattle.reading.specs.Lent.{filled};
 ghost use Rattle.reading.specs.Bulk.{records};
 ghost use Rattle.gtc.specs.Judge.{judging};
@@ -36,25 +37,31 @@ fn as_judged(v: judge::Verdict) -> Verdict
     ensures { λ r. ⌜ r ≡ asJudged (answerOfVerdict v) ⌝ }
 {
     match v {
-        judge::Verdict::Whole { extent, unjudged } => Verdict {
+        judge::Verdict::Whole {
+            extent,
+            unjudged,
+            tail,
+        } => Verdict {
             refusal: 0,
             entry: 0,
             extent: extent as u64,
             unjudged: unjudged as u64,
+            tail: tail as u64,
         },
         judge::Verdict::Refused { number, entry } => Verdict {
             refusal: number as u64,
             entry: entry as u64,
             extent: 0,
             unjudged: 0,
+            tail: 0,
         },
     }
 }
 
-// Whether the bytes are a whole GTC file, with its extent and its unjudged entries.
+// Whether the bytes are a whole GTC file, with its extent, its unjudged entries and its tail.
 #[no_mangle]
 pub extern "C" fn jt_gtc_judge(s: &[u8]) -> Verdict
-    ensures { λ r. ⌜ r ≡ asJudged (answer judging (now (s .entry))) ⌝ }
+    ensures { λ r. ⌜ r ≡ asJudged (verdictOf judging (λ v. v .extent) (now (s .entry))) ⌝ }
 {
     as_judged(judge::judge(s))
 }

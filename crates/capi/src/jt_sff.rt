@@ -17,6 +17,7 @@ use sff_fields::record;
 ghost use mathlib.Core.Path.{_≡_};
 ghost use lib.ListN.{length};
 ghost use Rattle.reading.specs.Check.{answer, mapAnswer};
+ghost use Rattle.reading.specs.Verdict.{verdictOf};
 ghost use Rattle.reading.specs.Lent.{filled};
 ghost use Rattle.reading.specs.Bulk.{records};
 ghost use Rattle.sff.specs.Header.{header as headerReading};
@@ -30,10 +31,10 @@ ghost use Rattle.sff.specs.Flow.{flowReading};
 ghost use Rattle.capi.specs.Answers.{asVerdict, asListed};
 ghost use Rattle.capi.specs.Sff.{asHeader, readStruct, refusedRead, asRead, asFlow};
 
-// Whether the bytes are a whole SFF file, with its extent.
+// Whether the bytes are a whole SFF file, with its extent and its tail.
 #[no_mangle]
 pub extern "C" fn jt_sff_judge(s: &[u8]) -> Verdict
-    ensures { λ r. ⌜ r ≡ asVerdict (answer judging (now (s .entry))) ⌝ }
+    ensures { λ r. ⌜ r ≡ asVerdict (verdictOf judging (λ x. x) (now (s .entry))) ⌝ }
 {
     as_verdict(judge::judge(s))
 }

@@ -30,7 +30,7 @@ outcomeOfItemRead (item.At q) = passed q
 outcomeOfItemRead (item.Failed w) = failed w 0
 outcomeOfItemRead (item.Short p m) = short (record { start = p; end = m }) 0
 
--- judging: the extent, and the number of unjudged entries
-abbrev pub answerOfVerdict : Verdict → Answer Extent
-answerOfVerdict (verdict.Whole x u) = ok (record { extent = x; unjudged = u })
+-- judging: the extent with the number of unjudged entries, and the tail
+abbrev pub answerOfVerdict : Verdict → Answer (Extent × ℕ)
+answerOfVerdict (verdict.Whole x u t) = ok (record { extent = x; unjudged = u }, t)
 answerOfVerdict (verdict.Refused n e) = refused n e

@@ -26,7 +26,8 @@ ghost use Prim.Native.Nat.{_+_, _≤_, _<_};
 ghost use lib.ListN.{length};
 ghost use Rattle.reading.specs.Choice.{pick};
 ghost use Rattle.reading.specs.Number.{le};
-ghost use Rattle.reading.specs.Check.{run, answer};
+ghost use Rattle.reading.specs.Check.{run};
+ghost use Rattle.reading.specs.Verdict.{verdictOf};
 ghost use Rattle.reading.specs.Entries.{inOrder};
 ghost use Rattle.reading.specs.Explain.{explanationOf};
 ghost use Rattle.reading.specs.Answers.{outcomeOfEnded};
@@ -39,10 +40,18 @@ ghost use Rattle.gtc.specs.Answers.{answerOfVerdict};
 // The requirement that is no comparison with a number: an id that no earlier entry has.
 const NEW_ID: u8 = 1;
 
-// What judging finds: the file is whole, with its extent and the number of entries that are not judged; or the refusal and its entry.
+// What judging finds: the file is whole, with its extent, the number of entries that are not judged and how many bytes lie after the extent; or the
+// refusal and its entry.
 pub enum Verdict {
-    Whole { extent: usize, unjudged: usize },
-    Refused { number: u8, entry: usize },
+    Whole {
+        extent: usize,
+        unjudged: usize,
+        tail: usize,
+    },
+    Refused {
+        number: u8,
+        entry: usize,
+    },
 }
 
 // One of the first i entries has this id.
@@ -139,20 +148,21 @@ fn unjudged_among(h: &[u8], n: usize) -> usize
 
 fn judge_table(s: &[u8], h: &[u8], n: usize) -> Verdict
     requires { ⌜ tableEnd n ≤ length (now h) ⌝ }
-    ensures { λ r. ⌜ answerOfVerdict r ≡ answer (judgeTable (now (h .entry)) n) (now (s .entry)) ⌝ }
+    ensures { λ r. ⌜ answerOfVerdict r ≡ verdictOf (judgeTable (now (h .entry)) n) (λ v. v .extent) (now (s .entry)) ⌝ }
 {
-    match verdict_of(explain_entries(s, h, n)) {
-        verdict::Verdict::Whole(extent) => Verdict::Whole {
+    match verdict_of(explain_entries(s, h, n), s.len()) {
+        verdict::Verdict::Whole { extent, tail } => Verdict::Whole {
             extent,
             unjudged: unjudged_among(h, n),
+            tail,
         },
         verdict::Verdict::Refused { number, entry } => Verdict::Refused { number, entry },
     }
 }
 
-// Judges a file.
+// Judges the file: whether it is whole, with its extent, its unjudged entries and its tail, or the refusal and its entry.
 pub fn judge(s: &[u8]) -> Verdict
-    ensures { λ r. ⌜ answerOfVerdict r ≡ answer judging (now (s .entry)) ⌝ }
+    ensures { λ r. ⌜ answerOfVerdict r ≡ verdictOf judging (λ v. v .extent) (now (s .entry)) ⌝ }
 {
     match read_table(s) {
         Counted::Failed(t) => Verdict::Refused {

@@ -1,9 +1,10 @@
 // The lines for an ABIF file: its verdict and, if it is whole, its directory's entries.
 use crate::line::put;
+use crate::line::put_extent;
 use crate::line::put_name;
 use crate::line::put_refused;
 use crate::line::put_signed;
-use crate::line::put_whole;
+use crate::line::put_tail;
 use abif::directory::Opened;
 use abif::directory::open;
 use abif::judge::judge;
@@ -57,8 +58,9 @@ fn put_entries(s: &[u8], count: u32) {
 pub(crate) fn put_file(s: &[u8]) {
     match judge(s) {
         Verdict::Refused { number, entry } => put_refused(b"ABIF", number, entry),
-        Verdict::Whole(extent) => {
-            put_whole(b"ABIF", extent, s.len());
+        Verdict::Whole { extent, tail } => {
+            put_extent(b"ABIF", extent, s.len());
+            put_tail(tail);
             if let Opened::At { place: _, count } = open(s) {
                 put_entries(s, count);
             }

@@ -3,17 +3,22 @@ use crate::line::put;
 use crate::line::put_extent;
 use crate::line::put_number;
 use crate::line::put_refused;
+use crate::line::put_tail;
 use gtc::judge::Verdict;
 use gtc::judge::judge;
 
 pub(crate) fn put_file(s: &[u8]) {
     match judge(s) {
         Verdict::Refused { number, entry } => put_refused(b"GTC", number, entry),
-        Verdict::Whole { extent, unjudged } => {
+        Verdict::Whole {
+            extent,
+            unjudged,
+            tail,
+        } => {
             put_extent(b"GTC", extent, s.len());
             put(b" unjudged ");
             put_number(unjudged as u64);
-            put(b"\n");
+            put_tail(tail);
         }
     }
 }

@@ -69,9 +69,10 @@ pub(crate) fn put_extent(format: &[u8], extent: usize, length: usize) {
     put_number(length as u64);
 }
 
-// A whole file's line, in a format that has no unjudged entries.
-pub(crate) fn put_whole(format: &[u8], extent: usize, length: usize) {
-    put_extent(format, extent, length);
+// What a whole file's line ends with in every format: how many bytes lie after the extent.
+pub(crate) fn put_tail(tail: usize) {
+    put(b" tail ");
+    put_number(tail as u64);
     put(b"\n");
 }
 

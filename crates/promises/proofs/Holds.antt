@@ -1,11 +1,15 @@
 -- Demand 3 for a format, from what its calls need.
-use Prim.Native.Nat.{ℕ, _+_, _≤_, _<_, min}
+use Prim.Native.Nat.{ℕ, _+_, _-_, _≤_, _<_, min}
 use mathlib.Core.Path.{_≡_, refl, sym, _∙_, ap, subst}
 use mathlib.Core.Logic.{_⊎_, inl, inr}
 use mathlib.Core.List.{List}
+use mathlib.Core.Bool.{Bool, true, false}
 use native.Mathlib.Omega.{arith}
+use lib.Dec.{leb}
 use lib.ListN.{length, take, length-take}
+use borrow.Author.Tests.{leb-true, leb-false}
 use Rattle.reading.specs.Check.{Answer, ok, refused, mapAnswer, answer}
+use Rattle.reading.specs.Verdict.{withTail, tailOf}
 use Rattle.reading.proofs.Needed.{reach}
 use Rattle.reading.specs.Part.{Part, cutTo, Span, handedBack}
 use Rattle.reading.specs.Lent.{filled}
@@ -41,6 +45,22 @@ module _ (f : Format) (k : Needs f) where
   short : (c : f .Call) (file : Part) (r : Answer (f .call c .Value)) → Refused1 r → answer (f .call c .checks) (file .bytes) ≡ r → CutShort f c file
   short c file r (refused1 e) h = (e, ap (shows c file) h)
 
+  -- the tail that judging tells of s where it answers r
+  abbrev tail-at : List ℕ → Answer (f .call (f .judging) .Value) → ℕ
+  tail-at s r = tailOf (withTail (f .extent) (length s) r)
+
+  refused-tail : (s : List ℕ) (r : Answer (f .call (f .judging) .Value)) → Refused1 r → tail-at s r ≡ 0
+  refused-tail s r (refused1 e) = refl
+
+  tail-of-cut : (s : List ℕ) (v : f .call (f .judging) .Value) → answer (f .call (f .judging) .checks) s ≡ ok v → (n : ℕ) (b : Bool) → leb (f .extent v) n ≡ b → tail-at (take n s) (answer (f .call (f .judging) .checks) (take n s)) ≡ length (take n s) - f .extent v
+  tail-of-cut s v w n true q =
+      let e = k .extent s v w in
+      ap (tail-at (take n s)) (answer-same (f .call (f .judging) .checks) n s (omega (arith, leb-true (f .extent v) n q)) ∙ w)
+  tail-of-cut s v w n false q =
+      let e = k .extent s v w in
+      let l : length (take n s) ≡ min n (length s) = length-take n s in
+      refused-tail (take n s) _ (cuts (f .call (f .judging) .checks) s v w .cut n (omega (arith, leb-false (f .extent v) n q))) ∙ omega (arith, leb-false (f .extent v) n q)
+
   pub holds : Holds f
   holds =
       record {
@@ -48,6 +68,7 @@ module _ (f : Format) (k : Needs f) where
         within = λ file v w. subst (λ (x : ℕ). x ≤ length (file .bytes)) (k .extent (file .bytes) v w) (cuts (f .call (f .judging) .checks) (file .bytes) v w .within);
         below = λ file v w n h. short (f .judging) (cutTo n file) _ (cuts (f .call (f .judging) .checks) (file .bytes) v w .cut n (subst (λ (x : ℕ). n < x) (sym (k .extent (file .bytes) v w)) h)) refl;
         from = λ file v w n h c. seen-same c file n (answer-same (f .call c .checks) n (file .bytes) (omega (arith, k .under c (file .bytes) v w)));
+        tail = λ file v w n. tail-of-cut (file .bytes) v w n (leb (f .extent v) n) refl;
       }
     where
       either : (c : f .Call) (file : Part) (n : ℕ) → Refused1 (answer (f .call c .checks) (take n (file .bytes))) ⊎ (answer (f .call c .checks) (take n (file .bytes)) ≡ answer (f .call c .checks) (file .bytes)) → CutShort f c (cutTo n file) ⊎ (seen f c (cutTo n file) ≡ seen f c file)

@@ -3,6 +3,7 @@ pub mod Cut
 pub mod Steps
 pub mod Passed
 pub mod Explained
+pub mod Tail
 pub mod Reach
 pub mod Refused
 pub mod Loop

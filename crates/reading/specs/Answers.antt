@@ -33,9 +33,9 @@ answerOfExplanation (Failed w e) = refused (w .number) e
 answerOfExplanation (Short p m e) = refused 1 e
 answerOfExplanation (Beyond p e) = refused 1 e
 
--- judging: the extent
-abbrev pub answerOfVerdict : Verdict → Answer ℕ
-answerOfVerdict (verdict.Whole x) = ok x
+-- judging: the extent and the tail
+abbrev pub answerOfVerdict : Verdict → Answer (ℕ × ℕ)
+answerOfVerdict (verdict.Whole x t) = ok (x, t)
 answerOfVerdict (verdict.Refused n e) = refused n e
 
 -- lookup

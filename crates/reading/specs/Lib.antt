@@ -2,6 +2,7 @@ pub mod Choice
 pub mod Number
 pub mod Check
 pub mod Entries
+pub mod Verdict
 pub mod Explain
 pub mod Part
 pub mod Item

@@ -17,7 +17,8 @@ use sff_fields::header::index_offset_field;
 ghost use mathlib.Core.Path.{_≡_};
 ghost use Prim.Native.Nat.{_≤_};
 ghost use lib.ListN.{length};
-ghost use Rattle.reading.specs.Check.{run, answer};
+ghost use Rattle.reading.specs.Check.{run};
+ghost use Rattle.reading.specs.Verdict.{verdictOf};
 ghost use Rattle.reading.specs.Explain.{explanationOf};
 ghost use Rattle.reading.specs.Answers.{answerOfVerdict};
 ghost use Rattle.sff.specs.Judge.{ending, judging, judgingReads};
@@ -85,9 +86,9 @@ fn explain(s: &[u8]) -> Explanation
     }
 }
 
-// Judging: the file's extent, or the first refusal.
+// Judges the file: whether it is whole, with its extent and its tail, or the refusal and its read.
 pub fn judge(s: &[u8]) -> Verdict
-    ensures { λ r. ⌜ answerOfVerdict r ≡ answer judging (now (s .entry)) ⌝ }
+    ensures { λ r. ⌜ answerOfVerdict r ≡ verdictOf judging (λ x. x) (now (s .entry)) ⌝ }
 {
-    verdict_of(explain(s))
+    verdict_of(explain(s), s.len())
 }

@@ -1,9 +1,10 @@
 -- Judging, from the answers of its parts.
 use Prim.Native.Nat.{ℕ, suc, _+_}
-use mathlib.Core.Path.{_≡_, sym, _∙_}
+use mathlib.Core.Path.{_≡_, sym, _∙_, ap}
 use mathlib.Core.List.{List}
 use mathlib.Core.Bool.{Bool, true, false}
 use native.Mathlib.Nat.{add-assoc}
+use lib.ListN.{length}
 use Rattle.reading.specs.declared.check.Test.{Test}
 use Rattle.reading.specs.declared.check.Rule.the-variants.{Other}
 use Rattle.reading.specs.declared.check.Explanation.{Explanation}
@@ -11,10 +12,12 @@ use Rattle.reading.specs.declared.check.Explanation.the-variants as Explanation
 use Rattle.reading.specs.Choice.{pick}
 use Rattle.reading.specs.Number.{le}
 use Rattle.reading.specs.Check.{passed, failed, short, ok, refused, run, answer, holds}
+use Rattle.reading.specs.Verdict.{withTail, verdictOf}
 use Rattle.reading.specs.Entries.{inOrder}
 use Rattle.reading.specs.Explain.{explanationOf}
 use Rattle.reading.specs.Answers.{answerOfExplanation}
 use Rattle.reading.proofs.Explained.{answer-explained}
+use Rattle.reading.proofs.Tail.{tail-ok, tail-refused}
 use Rattle.reading.proofs.Steps.{run-bind, run-must, run-done, answer-done}
 use Rattle.reading.proofs.Passed.{bind-refused, bind-answered}
 use Rattle.gtc.specs.declared.entry.Entry.{Entry}
@@ -64,10 +67,15 @@ module _ (s h : List ℕ) (n : ℕ) (r : Explanation) (q : r ≡ explanationOf (
   entries-answer : answerOfExplanation r ≡ answer (inOrder (judgeEntry h n) n 0 (tableEnd n)) s
   entries-answer = answer-explained (inOrder (judgeEntry h n) n 0 (tableEnd n)) s r q
 
-  pub table-refused : (k e : ℕ) → answerOfExplanation r ≡ refused k e → refused k e ≡ answer (judgeTable h n) s
+  pub table-refused : (k e : ℕ) → withTail (λ x. x) (length s) (answerOfExplanation r) ≡ refused k e → refused k e ≡ verdictOf (judgeTable h n) (λ v. v .extent) s
   unfolding judgeTable
-  table-refused k e w = bind-refused _ _ s k e (sym entries-answer ∙ w)
+  table-refused k e w = ap (withTail (λ v. v .extent) (length s)) (bind-refused _ _ s k e (sym entries-answer ∙ tail-refused _ _ _ k e w))
 
-  pub table-whole : (x u : ℕ) → answerOfExplanation r ≡ ok x → u ≡ unjudgedAmong h n 0 → ok (record { extent = x; unjudged = u }) ≡ answer (judgeTable h n) s
+  whole-answer : (x u : ℕ) → answerOfExplanation r ≡ ok x → u ≡ unjudgedAmong h n 0 → ok (record { extent = x; unjudged = u }) ≡ answer (judgeTable h n) s
   unfolding judgeTable
-  table-whole x u w v = rw v (sym (answer-done _ s) ∙ bind-answered _ _ s x (sym entries-answer ∙ w))
+  whole-answer x u w v = rw v (sym (answer-done _ s) ∙ bind-answered _ _ s x (sym entries-answer ∙ w))
+
+  pub table-whole : (x t u : ℕ) → withTail (λ x. x) (length s) (answerOfExplanation r) ≡ ok (x, t) → u ≡ unjudgedAmong h n 0 → ok (record { extent = x; unjudged = u }, t) ≡ verdictOf (judgeTable h n) (λ v. v .extent) s
+  table-whole x t u w v =
+      let a = tail-ok (λ x. x) (length s) (answerOfExplanation r) x t w in
+      rw (a .1) (ap (withTail (λ v. v .extent) (length s)) (whole-answer x u (a .0) v))

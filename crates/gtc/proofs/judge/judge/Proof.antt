@@ -1,11 +1,19 @@
 use borrow.Author.Needs.{needs}
 use Rattle.gtc.proofs.judge.judge.Statement.{statement}
 use Rattle.gtc.proofs.judge.judge.Tie as tie
-use mathlib.Core.Path.{_∙_}
+use Prim.Native.Nat.{ℕ}
+use mathlib.Core.Path.{_∙_, ap}
+use mathlib.Core.List.{List}
 use native.Mathlib.Omega.{arith}
-use lib.ListN.{length-take}
-use Rattle.gtc.specs.Judge.{judgeTable, judging}
+use lib.ListN.{length, length-take}
+use Rattle.reading.specs.Check.{Answer}
+use Rattle.reading.specs.Verdict.{withTail}
+use Rattle.gtc.specs.Judge.{Extent, judgeTable, judging}
 use Rattle.gtc.proofs.table.Laws.{table-at, count-known, after-failed, after-short, after-count}
+
+-- what the checks answer of the file s, with its tail
+abbrev tailed : List ℕ → Answer Extent → Answer (Extent × ℕ)
+tailed s = withTail (λ v. v .extent) (length s)
 
 read-table-requires : tie.Need-read-table-requires
 read-table-requires c κs = search needs
@@ -45,19 +53,22 @@ returns : tie.Need-returns
 unfolding judging
 returns c =
     let t = c .before .before .before in
-    after-failed (t .before .before .args .s .now) _ (t .read-table .ensures) (λ t. judgeTable (t .upTo) (t .count)) _ (c .before .t .given .1)
+    let s = t .before .before .args .s .now in
+    ap (tailed s) (after-failed s _ (t .read-table .ensures) (λ t. judgeTable (t .upTo) (t .count)) _ (c .before .t .given .1))
 
 returns-2 : tie.Need-returns-2
 unfolding judging
 returns-2 c =
     let t = c .before .before in
-    after-short (t .before .before .args .s .now) _ (t .read-table .ensures) (λ t. judgeTable (t .upTo) (t .count)) _ _ (c .enum-told .given .1)
+    let s = t .before .before .args .s .now in
+    ap (tailed s) (after-short s _ (t .read-table .ensures) (λ t. judgeTable (t .upTo) (t .count)) _ _ (c .enum-told .given .1))
 
 returns-3 : tie.Need-returns-3
 unfolding judging
 returns-3 c =
     let t = c .before .before .before .before .before .before in
-    c .judge-table .ensures ∙ after-count (t .before .before .args .s .now) _ (t .read-table .ensures) (λ t. judgeTable (t .upTo) (t .count)) _ (c .before .before .before .before .count .given .1) _ (c .before .before .table-end .ensures)
+    let s = t .before .before .args .s .now in
+    c .judge-table .ensures ∙ ap (tailed s) (after-count s _ (t .read-table .ensures) (λ t. judgeTable (t .upTo) (t .count)) _ (c .before .before .before .before .count .given .1) _ (c .before .before .table-end .ensures))
 
 pub judge-spec : {M : Type 1} → statement M
 judge-spec =

@@ -24,7 +24,7 @@ returns : tie.Need-returns
 returns c =
     let v = c .before .before .before .before in
     let g = v .before .before .before .before .args in
-    table-whole (g .s .now) (g .h .now) (g .n) _ (v .before .explain-entries .ensures) _ _ (sym (v .verdict-of .ensures) ∙ ap answerOfVerdict (c .before .before .extent .given .1)) (c .unjudged-among .ensures)
+    table-whole (g .s .now) (g .h .now) (g .n) _ (v .before .explain-entries .ensures) _ _ _ (sym (v .verdict-of .ensures) ∙ ap answerOfVerdict (c .before .before .extent .given .1)) (c .unjudged-among .ensures)
 
 returns-2 : tie.Need-returns-2
 returns-2 c =

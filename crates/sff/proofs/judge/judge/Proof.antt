@@ -1,4 +1,6 @@
-use mathlib.Core.Path.{_∙_}
+use mathlib.Core.Path.{_∙_, ap}
+use lib.ListN.{length}
+use Rattle.reading.specs.Verdict.{withTail}
 use Rattle.reading.proofs.Explained.{answer-explained}
 use Rattle.sff.specs.Judge.{judging}
 use borrow.Author.Needs.{needs}
@@ -12,7 +14,9 @@ verdict-of-requires : tie.Need-verdict-of-requires
 verdict-of-requires c κs = search needs
 
 returns : tie.Need-returns
-returns c = c .verdict-of .ensures ∙ answer-explained judging _ _ (c .before .explain .ensures)
+returns c =
+    let s = c .before .before .before .args .s .now in
+    c .verdict-of .ensures ∙ ap (withTail (λ x. x) (length s)) (answer-explained judging s _ (c .before .explain .ensures))
 
 pub judge-spec : {M : Type 1} → statement M
 judge-spec = tie.close (tie.spec explain-requires verdict-of-requires returns)
