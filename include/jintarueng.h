@@ -40,13 +40,15 @@
 extern "C" {
 #endif
 
-/* A whole file's extent; refused, the entry or read at fault, from one, or 0 for the header, the place of the directory
-   or table, and the index. */
+/* A whole file's extent, and how many bytes lie after it; refused, the entry or read at fault, from one, or 0 for the
+   header, the place of the directory or table, and the index. Of a file that is whole with extent E every beginning of
+   E bytes or more answers every call as the full file does, but for `tail`, which is the beginning's length less E. */
 typedef struct jt_verdict {
     uint64_t refusal;
     uint64_t entry;
     uint64_t extent;
     uint64_t unjudged; /* GTC: the entries whose id the format does not list; 0 for ABIF and SFF */
+    uint64_t tail;     /* `len` less the extent: the bytes after it, which are no part of the file */
 } jt_verdict;
 
 /* A directory's place and its number of entries. */
@@ -226,7 +228,7 @@ typedef struct jt_sff_writer {
     uint64_t at;
 } jt_sff_writer;
 
-/* Whether the bytes are a whole ABIF file, and its extent. */
+/* Whether the bytes are a whole ABIF file, its extent and its tail. */
 jt_verdict jt_abif_judge(const uint8_t *bytes, size_t len);
 
 /* Where the directory stands: the checks of the header and of the directory's place. */
@@ -274,7 +276,7 @@ jt_written jt_abif_write(const uint32_t *names, size_t name_count, const int32_t
                          const uint64_t *starts, size_t start_count, const uint64_t *lengths, size_t length_count,
                          const uint8_t *data, size_t data_len, uint8_t *out, size_t room);
 
-/* Whether the bytes are a whole SFF file, and its extent. What stands in the reads is not judged. */
+/* Whether the bytes are a whole SFF file, its extent and its tail. What stands in the reads is not judged. */
 jt_verdict jt_sff_judge(const uint8_t *bytes, size_t len);
 
 /* The common header. */
@@ -311,8 +313,8 @@ jt_sff_writer jt_sff_add(jt_sff_writer w, const uint8_t *name, size_t name_len, 
 /* The length of the file, once the stated number of reads is written; before that, 9. */
 jt_written jt_sff_finish(jt_sff_writer w);
 
-/* Whether the bytes are a whole GTC file, its extent, and how many of its entries were not judged. Genotypes and base
-   calls are not judged. */
+/* Whether the bytes are a whole GTC file, its extent, how many of its entries were not judged, and its tail. Genotypes
+   and base calls are not judged. */
 jt_verdict jt_gtc_judge(const uint8_t *bytes, size_t len);
 
 /* The item with this id. Its data are the offset field for 1, 2, 3 and 1010, a string's characters, an array's

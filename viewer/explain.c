@@ -287,8 +287,10 @@ static void explain_unknown(struct explanation *explanation, const struct file *
 
 static void explain_whole(struct explanation *explanation, uint64_t tail) {
     if (tail > 0) {
-        say(explanation, "%s more %s behind the end, not part of the file.", with_commas(tail).text,
-            tail == 1 ? "byte" : "bytes");
+        say(explanation,
+            "whole, %s %s behind the end: nothing of the file is missing, and what lies behind its end is no part of "
+            "it.",
+            with_commas(tail).text, tail == 1 ? "byte" : "bytes");
     }
 }
 
@@ -298,7 +300,7 @@ struct explanation explain(const struct file *file, const struct judgement *judg
     if (judgement->format == FORMAT_UNKNOWN) {
         explain_unknown(&explanation, file);
     } else if (is_whole(judgement)) {
-        explain_whole(&explanation, file->length - verdict->extent);
+        explain_whole(&explanation, verdict->tail);
     } else if (verdict->refusal == ANOTHER_VERSION) {
         head(&explanation, "ANOTHER VERSION");
         say(&explanation,

@@ -16,6 +16,7 @@ enum { REFUSALS = 15 };
 /* How the files that were judged came out, and what is being walked. */
 struct tally {
     uint64_t whole;
+    uint64_t with_tail; /* of these, with bytes behind the end */
     uint64_t unknown;
     uint64_t unreadable;
     uint64_t refused;
@@ -50,6 +51,7 @@ static void report_unreadable(struct tally *tally, const char *path, const char 
 static void count(struct tally *tally, const struct judgement *judgement) {
     if (is_whole(judgement)) {
         tally->whole++;
+        tally->with_tail += judgement->verdict.tail > 0;
     } else if (judgement->format == FORMAT_UNKNOWN) {
         tally->unknown++;
     } else {
@@ -162,6 +164,10 @@ static void print_summary(const struct tally *tally) {
     uint64_t files = tally->whole + tally->refused + tally->unknown + tally->unreadable;
     printf("%" PRIu64 " files: %" PRIu64 " whole, %" PRIu64 " refused, %" PRIu64 " unknown, %" PRIu64 " not readable\n",
            files, tally->whole, tally->refused, tally->unknown, tally->unreadable);
+    if (tally->with_tail > 0) {
+        printf("  %" PRIu64 " whole %s with bytes behind the end\n", tally->with_tail,
+               tally->with_tail == 1 ? "file" : "files");
+    }
     for (uint64_t refusal = 1; refusal < REFUSALS; refusal++) {
         if (tally->by_number[refusal] > 0) {
             uint64_t counted = tally->by_number[refusal];

@@ -39,17 +39,23 @@ enum status status_of(const struct judgement *judgement) {
     return is_whole(judgement) ? STATUS_WHOLE : STATUS_REFUSED;
 }
 
+static void print_whole(FILE *out, const struct file *file, const struct judgement *judgement) {
+    const jt_verdict *verdict = &judgement->verdict;
+    fprintf(out, " whole %" PRIu64 " of %zu", verdict->extent, file->length);
+    if (judgement->format == FORMAT_GTC) {
+        fprintf(out, " unjudged %" PRIu64, verdict->unjudged);
+    }
+    fprintf(out, " tail %" PRIu64, verdict->tail);
+}
+
 void print_line_to(FILE *out, const struct file *file, const struct judgement *judgement) {
     const jt_verdict *verdict = &judgement->verdict;
     print_string(out, file->path);
     fprintf(out, ": %s", format_name(judgement->format));
     if (is_whole(judgement)) {
-        fprintf(out, " whole %" PRIu64 " of %zu", verdict->extent, file->length);
+        print_whole(out, file, judgement);
     } else if (judgement->format != FORMAT_UNKNOWN) {
         fprintf(out, " refused %" PRIu64 " at %" PRIu64, verdict->refusal, verdict->entry);
-    }
-    if (is_whole(judgement) && judgement->format == FORMAT_GTC) {
-        fprintf(out, " unjudged %" PRIu64, verdict->unjudged);
     }
     fputc('\n', out);
     struct explanation explanation = explain(file, judgement);

@@ -14,7 +14,8 @@ enum {
     TITLE_FONT = 22,
     PAGE_NUMBER_WIDTH = 190,
     FACTS_FONT = 15,
-    TAIL_HEIGHT = 22,
+    TAIL_HEIGHT = 46, /* the words, and the strip below them */
+    STRIP_HEIGHT = 14,
     BAND_HEIGHT = 44,
     VERDICT_HEIGHT = 88, /* the heading and the line below it */
     MEANING_FONT = 18,
@@ -59,7 +60,7 @@ static int meaning_lines(const struct picture *picture) {
 }
 
 static bool has_tail(const struct picture *picture) {
-    return is_whole(&picture->judgement) && picture->explanation.sentences[0] != '\0';
+    return picture->judgement.verdict.tail > 0;
 }
 
 static int banner_height(const struct picture *picture) {
@@ -197,12 +198,31 @@ static void draw_banner(struct picture *picture) {
                        : "What cannot be read is hatched. What can be read is drawn, and marked: file refused.");
 }
 
+/* A part of the strip: where it starts, how wide it is, and how it is drawn. */
+static void draw_strip_part(struct picture *picture, const char *class, int x, int width, const char *look) {
+    svg_format(&picture->svg, "<rect class=\"%s\" x=\"%d\" y=\"%d\" width=\"%d\" height=\"%d\" %s stroke=\"#111\"/>\n",
+               class, x, TITLE_HEIGHT + 18, width, STRIP_HEIGHT, look);
+}
+
+/* What lies behind the end, in words and, to scale, as a dashed box behind the file's own; neither is too narrow to be
+   seen. */
+static void draw_tail(struct picture *picture) {
+    enum { NARROWEST = 4 };
+    const jt_verdict *verdict = &picture->judgement.verdict;
+    svg_format(&picture->svg, "<text class=\"tail\" x=\"%d\" y=\"%d\">%s</text>\n", PICTURE_MARGIN, TITLE_HEIGHT + 8,
+               picture->explanation.sentences);
+    double share = (double)verdict->extent / ((double)verdict->extent + (double)verdict->tail);
+    int width = NARROWEST + (int)((BANNER_WIDTH - 2 * NARROWEST) * share);
+    draw_strip_part(picture, "file-strip", PICTURE_MARGIN, width, "fill=\"#ccc\"");
+    draw_strip_part(picture, "tail-strip", PICTURE_MARGIN + width, BANNER_WIDTH - width,
+                    "fill=\"none\" stroke-dasharray=\"4 3\"");
+}
+
 void draw_head(struct picture *picture, int64_t page) {
     draw_title(picture, page);
     draw_facts(picture);
     if (has_tail(picture) && page == 1) {
-        svg_format(&picture->svg, "<text class=\"tail\" x=\"%d\" y=\"%d\">%s</text>\n", PICTURE_MARGIN,
-                   TITLE_HEIGHT + 8, picture->explanation.sentences);
+        draw_tail(picture);
     } else if (!is_whole(&picture->judgement) && page == 1) {
         draw_banner(picture);
     } else if (!is_whole(&picture->judgement)) {

@@ -24,6 +24,11 @@ static void check(int holds, const char *what) {
 #define FIELD(type, name, place)                                                                                       \
     _Static_assert(offsetof(type, name) == 8 * (place) && sizeof(((type *)0)->name) == 8, #name)
 
+FIELD(jt_verdict, refusal, 0);
+FIELD(jt_verdict, entry, 1);
+FIELD(jt_verdict, extent, 2);
+FIELD(jt_verdict, unjudged, 3);
+FIELD(jt_verdict, tail, 4);
 FIELD(struct jt_sff_header, refusal, 0);
 FIELD(struct jt_sff_header, index_offset, 1);
 FIELD(struct jt_sff_header, index_length, 2);
@@ -195,7 +200,7 @@ static size_t make_gtc_file(uint8_t *file, const uint8_t codes[3]) {
 }
 
 static void check_sizes(void) {
-    check(sizeof(jt_verdict) == 32, "size of jt_verdict");
+    check(sizeof(jt_verdict) == 40, "size of jt_verdict");
     check(sizeof(jt_opened) == 24, "size of jt_opened");
     check(sizeof(jt_item) == 40, "size of jt_item");
     check(sizeof(jt_part) == 24, "size of jt_part");
@@ -314,10 +319,17 @@ static void check_abif_lists(void) {
     check(untouched(out, 0, sizeof out), "the output of refused calls");
 }
 
+static int is_whole(jt_verdict v, uint64_t extent, uint64_t unjudged, uint64_t tail) {
+    return v.refusal == 0 && v.entry == 0 && v.extent == extent && v.unjudged == unjudged && v.tail == tail;
+}
+
+static int is_refused(jt_verdict v, uint64_t refusal, uint64_t entry) {
+    return v.refusal == refusal && v.entry == entry && v.extent == 0 && v.unjudged == 0 && v.tail == 0;
+}
+
 static void check_answers(const uint8_t *file, size_t len) {
     int64_t out[4] = {7, 7, 7, 7};
-    jt_verdict verdict = jt_abif_judge(file, len);
-    check(verdict.refusal == 0 && verdict.entry == 0 && verdict.extent == 156 && verdict.unjudged == 0, "judging");
+    check(is_whole(jt_abif_judge(file, len), 156, 0, 0), "judging");
     jt_opened opened = jt_abif_open(file, len);
     check(opened.refusal == 0 && opened.place == 128 && opened.count == 1, "opening");
     jt_item item = jt_abif_lookup(file, len, ABCD, 1);
@@ -336,8 +348,7 @@ static void check_answers(const uint8_t *file, size_t len) {
 }
 
 static void check_refusals(const uint8_t *file, size_t len) {
-    jt_verdict cut = jt_abif_judge(file, len - 1);
-    check(cut.refusal == 1 && cut.entry == 0 && cut.extent == 0, "judging a cut file");
+    check(is_refused(jt_abif_judge(file, len - 1), 1, 0), "judging a cut file");
     check(jt_abif_judge(NULL, 0).refusal == 1, "judging no bytes");
     check(jt_abif_lookup(file, len, ABCD, -1).refusal == 7, "a tag that is not there");
     int64_t out[1] = {7};
@@ -462,8 +473,7 @@ static void check_opened_refusals(const uint8_t *file, size_t len) {
 static void check_sff_header(void) {
     uint8_t file[40];
     size_t len = make_sff_header(file, 0);
-    jt_verdict verdict = jt_sff_judge(file, len);
-    check(verdict.refusal == 0 && verdict.entry == 0 && verdict.extent == 40 && verdict.unjudged == 0, "judging no reads");
+    check(is_whole(jt_sff_judge(file, len), 40, 0, 0), "judging no reads");
     struct jt_sff_header header = jt_sff_header(file, len);
     check(header.refusal == 0 && header.index_offset == 0 && header.index_length == 0 && header.reads == 0, "header");
     check(header.header_length == 40 && header.key_length == 4 && header.flows == 4, "lengths in the header");
@@ -482,7 +492,7 @@ static void check_sff_parts(const struct jt_sff_read *read, const char *what) {
 static void check_sff_read(void) {
     uint8_t file[88];
     size_t len = make_sff_file(file, (const uint8_t[]){0, 0}, (const uint8_t[]){1, 1, 1});
-    check(jt_sff_judge(file, len).extent == 88, "judging one read");
+    check(is_whole(jt_sff_judge(file, len), 88, 0, 0), "judging one read");
     struct jt_sff_read read = jt_sff_read(file, len, 1);
     check_sff_parts(&read, "read");
     check(read.quality_left == 2 && read.quality_right == 0, "quality clips");
@@ -556,8 +566,7 @@ static void check_sff_reads_refusals(void) {
 static void check_sff_refusals(void) {
     uint8_t file[88];
     size_t len = make_sff_file(file, (const uint8_t[]){0, 4}, (const uint8_t[]){1, 1, 1});
-    jt_verdict cut = jt_sff_judge(file, len - 1);
-    check(cut.refusal == 1 && cut.entry == 1 && cut.extent == 0, "judging a cut read");
+    check(is_refused(jt_sff_judge(file, len - 1), 1, 1), "judging a cut read");
     check(jt_sff_judge(file, len).refusal == 0, "judging a read with a clip above its bases");
     struct jt_sff_read read = jt_sff_read(file, len, 1);
     check(read.refusal == 11 && read.start == 0 && read.letters_start == 0, "a clip above the bases");
@@ -640,14 +649,11 @@ static void check_sff_writing_refusals(void) {
 static void check_gtc_table(void) {
     static const uint8_t none[] = {0x67, 0x74, 0x63, 0x05, 0x00, 0x00, 0x00, 0x00};
     static const uint8_t value[] = {0x67, 0x74, 0x63, 0x05, 0x01, 0x00, 0x00, 0x00, 0x01, 0x00, 0x03, 0x00, 0x00, 0x00};
-    jt_verdict verdict = jt_gtc_judge(none, sizeof none);
-    check(verdict.refusal == 0 && verdict.extent == 8 && verdict.unjudged == 0, "judging no entries");
-    verdict = jt_gtc_judge(value, sizeof value);
-    check(verdict.refusal == 0 && verdict.extent == 14 && verdict.unjudged == 0, "judging one value");
+    check(is_whole(jt_gtc_judge(none, sizeof none), 8, 0, 0), "judging no entries");
+    check(is_whole(jt_gtc_judge(value, sizeof value), 14, 0, 0), "judging one value");
     jt_item item = jt_gtc_lookup(value, sizeof value, 1);
     check(item.refusal == 0 && item.type == 1 && item.count == 4 && item.start == 10 && item.length == 4, "a value");
-    verdict = jt_gtc_judge(value, sizeof value - 1);
-    check(verdict.refusal == 1 && verdict.entry == 0 && verdict.extent == 0, "judging a cut table");
+    check(is_refused(jt_gtc_judge(value, sizeof value - 1), 1, 0), "judging a cut table");
     item = jt_gtc_lookup(value, sizeof value, 2);
     check(item.refusal == 7 && item.type == 0 && item.count == 0 && item.start == 0, "an id that is not there");
     check(jt_gtc_lookup(value, sizeof value, 2000).refusal == 10, "an id that is not listed");
@@ -661,8 +667,7 @@ static void check_gtc_snp(const jt_snp *snp, uint64_t code, uint64_t ploidy, uin
 static void check_gtc_records(void) {
     uint8_t file[256];
     size_t len = make_gtc_file(file, (const uint8_t[]){13, 45, 4});
-    jt_verdict verdict = jt_gtc_judge(file, len);
-    check(verdict.refusal == 0 && verdict.extent == len && verdict.unjudged == 1, "judging three SNPs");
+    check(is_whole(jt_gtc_judge(file, len), len, 1, 0), "judging three SNPs");
     jt_snp snps[3];
     for (int i = 0; i < 3; i++) {
         snps[i] = jt_gtc_snp(file, len, (uint64_t)i + 1);
@@ -713,8 +718,7 @@ static void check_gtc_refusals(void) {
     check(jt_gtc_snps(file, len, 1, NULL, 0).refusal == 13, "no room for SNPs");
     check(jt_gtc_snps(file, 60, 1, out, 3 * JT_SNP_NUMBERS).refusal == 1 && out[0] == 7, "the SNPs of a cut file");
     check(jt_gtc_snp(file, 60, 1).refusal == 1 && jt_gtc_snp(NULL, 0, 1).refusal == 1, "a SNP of a cut file");
-    jt_verdict cut = jt_gtc_judge(file, len - 1);
-    check(cut.refusal == 1 && cut.entry == 7 && cut.extent == 0 && cut.unjudged == 0, "judging a cut array");
+    check(is_refused(jt_gtc_judge(file, len - 1), 1, 7), "judging a cut array");
 }
 
 static void check_gtc_normalising(void) {
@@ -743,6 +747,22 @@ static void check_gtc_normalising(void) {
     check(jt_gtc_transformation(NULL, 0, 1).refusal == 1, "a transformation of no bytes");
 }
 
+static void check_tails(void) {
+    enum { MOST = 300 };
+    static const size_t tails[] = {0, 1, 7, 8, MOST};
+    uint8_t abif[256 + MOST] = {0};
+    uint8_t sff[88 + MOST] = {0};
+    uint8_t gtc[256 + MOST] = {0};
+    size_t abif_len = make_file(abif);
+    size_t sff_len = make_sff_file(sff, (const uint8_t[]){0, 0}, (const uint8_t[]){1, 1, 1});
+    size_t gtc_len = make_gtc_file(gtc, (const uint8_t[]){13, 45, 4});
+    for (size_t i = 0; i < sizeof tails / sizeof *tails; i++) {
+        check(is_whole(jt_abif_judge(abif, abif_len + tails[i]), abif_len, 0, tails[i]), "the tail of an ABIF file");
+        check(is_whole(jt_sff_judge(sff, sff_len + tails[i]), sff_len, 0, tails[i]), "the tail of an SFF file");
+        check(is_whole(jt_gtc_judge(gtc, gtc_len + tails[i]), gtc_len, 1, tails[i]), "the tail of a GTC file");
+    }
+}
+
 int main(void) {
     uint8_t file[256];
     size_t len = make_file(file);
@@ -768,6 +788,7 @@ int main(void) {
     check_gtc_snps();
     check_gtc_refusals();
     check_gtc_normalising();
+    check_tails();
     printf("%d passed, %d failed\n", passed, failed);
     return failed != 0;
 }

@@ -1,5 +1,6 @@
 //! The answers of C functions that all formats share, and the same answers made from the readers'.
 
+use crate::judged::Judged;
 use crate::refusal::{Refusal, Refused};
 
 const UNTOUCHED: u32 = 0x5A5A_A5A5;
@@ -35,6 +36,7 @@ pub struct Verdict {
     pub entry: u64,
     pub extent: u64,
     pub unjudged: u64,
+    pub tail: u64,
 }
 
 /// An item: its type (for GTC its id), its count, and where its data stand.
@@ -64,9 +66,10 @@ pub struct Finished {
 }
 
 impl Verdict {
-    pub fn whole(extent: u64) -> Verdict {
+    pub fn whole(extent: usize, tail: usize) -> Verdict {
         Verdict {
-            extent,
+            extent: extent as u64,
+            tail: tail as u64,
             ..Verdict::default()
         }
     }
@@ -89,10 +92,13 @@ impl Found {
     }
 }
 
-impl From<Result<usize, Refused>> for Verdict {
-    fn from(answer: Result<usize, Refused>) -> Verdict {
+impl From<Result<Judged, Refused>> for Verdict {
+    fn from(answer: Result<Judged, Refused>) -> Verdict {
         match answer {
-            Ok(extent) => Verdict::whole(extent as u64),
+            Ok(judged) => Verdict {
+                unjudged: judged.unjudged as u64,
+                ..Verdict::whole(judged.extent, judged.tail)
+            },
             Err(refused) => Verdict::refused(refused.refusal as u64, refused.entry as u64),
         }
     }

@@ -6,7 +6,7 @@ use crate::report::NamedRun;
 use std::fmt::Debug;
 use std::ops::Range;
 
-const CUT_SHORT: u64 = 1;
+pub const CUT_SHORT: u64 = 1;
 
 /// A call other than judging with its arguments, asked of the library and of the reader alike.
 pub trait Question: Debug {

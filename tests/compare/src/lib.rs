@@ -10,6 +10,7 @@ pub mod floats;
 pub mod format;
 pub mod groups;
 pub mod gtc;
+pub mod judged;
 pub mod little_endian;
 pub mod output;
 pub mod program;

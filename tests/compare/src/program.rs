@@ -1,6 +1,7 @@
 //! The lines that the program prints for its standard input.
 
 use crate::abif::reader::Entry;
+use crate::judged::Judged;
 use crate::refusal::Refused;
 use crate::{abif, gtc, sff};
 use std::fmt::Write;
@@ -19,17 +20,28 @@ pub fn lines_of_any_length(input: &[u8]) -> String {
     if input.starts_with(b"ABIF") {
         abif_lines(input)
     } else if input.starts_with(b".sff") {
-        first_line("SFF", input, sff::reader::judge(input))
+        first_line("SFF", input, sff::reader::judge(input), |_| String::new())
     } else if input.starts_with(b"gtc") {
-        gtc_line(input)
+        let unjudged = |judged: Judged| format!(" unjudged {}", judged.unjudged);
+        first_line("GTC", input, gtc::reader::judge(input), unjudged)
     } else {
         "unknown\n".to_string()
     }
 }
 
-fn first_line(format: &str, input: &[u8], judged: Result<usize, Refused>) -> String {
+// The format's own words of a whole file stand before its tail.
+fn first_line(
+    format: &str,
+    input: &[u8],
+    judged: Result<Judged, Refused>,
+    own: impl Fn(Judged) -> String,
+) -> String {
     match judged {
-        Ok(extent) => format!("{format} whole {extent} of {}\n", input.len()),
+        Ok(judged) => {
+            let Judged { extent, tail, .. } = judged;
+            let (length, own) = (input.len(), own(judged));
+            format!("{format} whole {extent} of {length}{own} tail {tail}\n")
+        }
         Err(refused) => {
             let number = refused.refusal as u64;
             format!("{format} refused {number} at {}\n", refused.entry)
@@ -37,20 +49,10 @@ fn first_line(format: &str, input: &[u8], judged: Result<usize, Refused>) -> Str
     }
 }
 
-// Only a whole file's line tells how many entries were not judged.
-fn gtc_line(input: &[u8]) -> String {
-    let judged = gtc::reader::judge(input);
-    let text = first_line("GTC", input, judged.map(|judged| judged.extent));
-    match judged {
-        Ok(judged) => format!("{} unjudged {}\n", text.trim_end(), judged.unjudged),
-        Err(_) => text,
-    }
-}
-
 // Only a whole file has lines for its entries.
 fn abif_lines(input: &[u8]) -> String {
     let judged = abif::reader::judge(input);
-    let mut text = first_line("ABIF", input, judged);
+    let mut text = first_line("ABIF", input, judged, |_| String::new());
     if let (Ok(_), Ok(directory)) = (judged, abif::reader::open(input)) {
         for entry in directory.entries(input) {
             text.push_str(&entry_line(&entry));

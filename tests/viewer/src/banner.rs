@@ -1,13 +1,17 @@
 //! The checks of what a picture says of its file: its name, the verdict, and what that means.
 
 use crate::findings::Findings;
-use crate::picture::{grouped, of_class, pages};
+use crate::picture::{grouped, number, of_class, pages};
 use crate::sentences;
 use crate::verdict::{self, Format};
 use crate::words::shown;
 use crate::xml::Element;
+use compare::judged::Judged;
 use compare::refusal::Refused;
-use compare::{abif, gtc, sff};
+use compare::{abif, gtc};
+
+/// What a box of the strip takes at least, in pixels.
+const NARROWEST: f64 = 4.0;
 
 /// Checks the texts of the banner and of every page's head.
 pub fn check(findings: &mut Findings, root: &Element, bytes: &[u8]) {
@@ -15,6 +19,7 @@ pub fn check(findings: &mut Findings, root: &Element, bytes: &[u8]) {
         check_verdict(findings, page, bytes);
     }
     check_meaning(findings, root, bytes);
+    check_strip(findings, root, bytes);
     check_entry(findings, root, bytes);
 }
 
@@ -36,12 +41,7 @@ pub fn verdict_of(bytes: &[u8]) -> Option<String> {
 /// How the facts of a whole file begin.
 pub fn facts_of(bytes: &[u8]) -> Option<String> {
     let format = Format::of(bytes);
-    let extent = match format {
-        Format::Abif => abif::reader::judge(bytes).ok()?,
-        Format::Sff => sff::reader::judge(bytes).ok()?,
-        Format::Gtc => gtc::reader::judge(bytes).ok()?.extent,
-        Format::Unknown => return None,
-    };
+    let extent = verdict::whole(bytes)?.extent;
     let [extent, length] = [extent, bytes.len()].map(|length| grouped(length as i64));
     Some(format!(
         "{}, whole: {extent} of {length} bytes",
@@ -64,8 +64,8 @@ fn check_verdict(findings: &mut Findings, page: &Element, bytes: &[u8]) {
     findings.check(fits, || format!("the facts are {found:?}"));
 }
 
-// The sentences of a refused file stand in lines, the first letter being a capital; what stands behind
-// a whole file's end is told by itself.
+// The sentences begin with a capital: those of a refused file in lines, and by itself what stands behind
+// a whole file's end.
 fn check_meaning(findings: &mut Findings, root: &Element, bytes: &[u8]) {
     let told = sentences::explanation(bytes);
     let is_refused = told.as_ref().is_some_and(|told| told.headline.is_some());
@@ -73,7 +73,7 @@ fn check_meaning(findings: &mut Findings, root: &Element, bytes: &[u8]) {
     let (meaning, tail) = if is_refused {
         (capitalised(&sentences), Vec::new())
     } else {
-        let tail = Some(sentences).filter(|tail| !tail.is_empty());
+        let tail = Some(capitalised(&sentences)).filter(|tail| !tail.is_empty());
         (String::new(), Vec::from_iter(tail))
     };
     let found = texts(root, "meaning").join(" ");
@@ -84,6 +84,33 @@ fn check_meaning(findings: &mut Findings, root: &Element, bytes: &[u8]) {
     findings.check(found == tail, || {
         format!("the tail is {found:?} and not {tail:?}")
     });
+}
+
+// Where bytes stand behind the end, one box for the file and, right behind it, one for them, to scale.
+fn check_strip(findings: &mut Findings, root: &Element, bytes: &[u8]) {
+    let boxes = ["file-strip", "tail-strip"].map(|class| of_class(root, class));
+    let judged = verdict::whole(bytes).filter(|judged| judged.tail > 0);
+    let fits = match (judged, &boxes) {
+        (Some(judged), [file, tail]) if file.len() == 1 && tail.len() == 1 => {
+            is_to_scale(file[0], tail[0], judged).unwrap_or(false)
+        }
+        (Some(_), _) => false,
+        (None, boxes) => boxes.iter().all(Vec::is_empty),
+    };
+    findings.check(fits, || {
+        format!("the strip is {boxes:?}, whole is {judged:?}")
+    });
+}
+
+fn is_to_scale(file: &Element, tail: &Element, judged: Judged) -> Option<bool> {
+    let [start, width] = ["x", "width"].map(|name| number::<f64>(file, name));
+    let [tail_start, tail_width] = ["x", "width"].map(|name| number::<f64>(tail, name));
+    let (width, tail_width) = (width?, tail_width?);
+    let share = judged.extent as f64 / (judged.extent + judged.tail) as f64;
+    let is_behind = start? + width == tail_start?;
+    let is_near = (width / (width + tail_width) - share).abs() < 0.01;
+    let differ = file.attribute("stroke-dasharray") != tail.attribute("stroke-dasharray");
+    Some(is_behind && is_near && width.min(tail_width) >= NARROWEST && differ)
 }
 
 fn capitalised(text: &str) -> String {

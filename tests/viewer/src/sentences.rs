@@ -10,7 +10,6 @@ use compare::abif::reader::open;
 use compare::gtc::reader::{ids, lookup};
 use compare::refusal::{Refusal, Refused};
 use compare::sff::reader::header;
-use compare::{abif, gtc, sff};
 
 const COPY: &str = "Copy the file again from the instrument.";
 const CARE: &str =
@@ -49,7 +48,7 @@ pub fn explanation(bytes: &[u8]) -> Option<Explanation> {
     let format = Format::of(bytes);
     match verdict::refused(bytes) {
         None if format == Format::Unknown => Some(unknown(bytes)),
-        None => behind_the_end(bytes, format),
+        None => behind_the_end(bytes),
         Some(refused) if refused.refusal == Refusal::OtherVersion => Some(other_version(format)),
         Some(refused) if format == Format::Sff => Some(of_sff(bytes, refused)),
         Some(refused) => Some(of_table(bytes, format, refused)),
@@ -67,20 +66,16 @@ fn unknown(bytes: &[u8]) -> Explanation {
     Explanation::new("NOT A SEQUENCING FILE", &sentences)
 }
 
-fn behind_the_end(bytes: &[u8], format: Format) -> Option<Explanation> {
-    let extent = match format {
-        Format::Abif => abif::reader::judge(bytes).ok()?,
-        Format::Sff => sff::reader::judge(bytes).ok()?,
-        _ => gtc::reader::judge(bytes).ok()?.extent,
-    };
-    let more = match bytes.len() - extent {
+fn behind_the_end(bytes: &[u8]) -> Option<Explanation> {
+    let tail = match verdict::whole(bytes)?.tail {
         0 => return None,
-        1 => "1 more byte".to_string(),
-        tail => format!("{} more bytes", grouped(tail as i64)),
+        1 => "1 byte".to_string(),
+        tail => format!("{} bytes", grouped(tail as i64)),
     };
+    let meaning = "nothing of the file is missing, and what lies behind its end is no part of it.";
     Some(Explanation {
         headline: None,
-        sentences: format!("{more} behind the end, not part of the file."),
+        sentences: format!("whole, {tail} behind the end: {meaning}"),
     })
 }
 

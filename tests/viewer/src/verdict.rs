@@ -2,6 +2,7 @@
 
 use crate::sentences::explanation;
 use crate::words::cleaned;
+use compare::judged::Judged;
 use compare::program::lines_of_any_length;
 use compare::refusal::Refused;
 use compare::{abif, gtc, sff};
@@ -37,18 +38,28 @@ impl Format {
     }
 }
 
-/// Judging's refusal; of a file of no format there is none.
-pub fn refused(bytes: &[u8]) -> Option<Refused> {
+// What judging says; of a file of no format nothing.
+fn judged(bytes: &[u8]) -> Option<Result<Judged, Refused>> {
     match Format::of(bytes) {
-        Format::Abif => abif::reader::judge(bytes).err(),
-        Format::Sff => sff::reader::judge(bytes).err(),
-        Format::Gtc => gtc::reader::judge(bytes).err(),
+        Format::Abif => Some(abif::reader::judge(bytes)),
+        Format::Sff => Some(sff::reader::judge(bytes)),
+        Format::Gtc => Some(gtc::reader::judge(bytes)),
         Format::Unknown => None,
     }
 }
 
+/// Judging's refusal; of a file of no format there is none.
+pub fn refused(bytes: &[u8]) -> Option<Refused> {
+    judged(bytes)?.err()
+}
+
+/// What judging finds, if the file is whole.
+pub fn whole(bytes: &[u8]) -> Option<Judged> {
+    judged(bytes)?.ok()
+}
+
 pub fn is_whole(bytes: &[u8]) -> bool {
-    Format::of(bytes) != Format::Unknown && refused(bytes).is_none()
+    whole(bytes).is_some()
 }
 
 // The line of a file with this name, without its newline.

@@ -115,7 +115,8 @@ impl format::Draft for Draft {
     }
 
     fn verdict(&self) -> Verdict {
-        Verdict::whole(self.extent() as u64)
+        let extent = self.extent();
+        Verdict::whole(extent, self.bytes().len() - extent)
     }
 
     fn fields(&self) -> Vec<Range<usize>> {

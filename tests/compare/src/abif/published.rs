@@ -87,7 +87,7 @@ fn one_inline_item(group: &mut Group) {
         count: 1,
     };
     let second = Answer::Element(Element::whole(1, -2));
-    expect_verdict::<Abif>(group, &file, Verdict::whole(156));
+    expect_verdict::<Abif>(group, &file, Verdict::whole(156, 0));
     expect(group, &file, Question::Open, Answer::Opened(opened));
     expect(group, &file, lookup(ABCD_1), Answer::Found(TWO_SHORTS));
     expect(group, &file, element(ABCD_1, 2), second);
@@ -175,19 +175,19 @@ fn opened_item(group: &mut Group) {
 fn three_shorts(group: &mut Group) {
     group.input();
     let file = samples::one_item_at_an_offset();
-    expect_verdict::<Abif>(group, &file, Verdict::whole(162));
+    expect_verdict::<Abif>(group, &file, Verdict::whole(162, 0));
     expect_verdict::<Abif>(group, &file[..161], Verdict::refused(1, 1));
 }
 
 fn month_thirteen(group: &mut Group) {
     group.input();
     let file = samples::month_thirteen();
-    expect_verdict::<Abif>(group, &file, Verdict::whole(156));
+    expect_verdict::<Abif>(group, &file, Verdict::whole(156, 0));
     expect(group, &file, element(ABCD_1, 1), no_element(11));
 }
 
 fn program_lines(group: &mut Group) {
     let file = samples::one_inline_item();
-    let printed = "ABIF whole 156 of 156\nABCD 1 type 4 count 2 size 4 inline\n";
+    let printed = "ABIF whole 156 of 156 tail 0\nABCD 1 type 4 count 2 size 4 inline\n";
     expect_lines(group, &file, printed);
 }

@@ -1,6 +1,7 @@
 //! An ABIF reader written from the rules of the format alone.
 
 use crate::big_endian::{four_at, u16_at, u32_at, u64_at};
+use crate::judged::Judged;
 use crate::refusal::{Refusal, Refused};
 use std::fmt;
 use std::ops::Range;
@@ -204,8 +205,7 @@ fn directory_from(header: &Entry, file_length: usize) -> Result<Directory, Refus
     })
 }
 
-/// The extent of a whole file.
-pub fn judge(bytes: &[u8]) -> Result<usize, Refused> {
+pub fn judge(bytes: &[u8]) -> Result<Judged, Refused> {
     let directory = open(bytes).map_err(|refusal| refusal.at(0))?;
     let table = &bytes[directory.place..directory.end()];
     let mut extent = directory.end().max(HEADER_LENGTH);
@@ -220,7 +220,7 @@ pub fn judge(bytes: &[u8]) -> Result<usize, Refused> {
             extent = extent.max(item.start + item.length);
         }
     }
-    Ok(extent)
+    Ok(Judged::up_to(extent, bytes))
 }
 
 pub fn lookup(bytes: &[u8], tag: Tag) -> Result<Item, Refusal> {

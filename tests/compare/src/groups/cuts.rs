@@ -3,7 +3,7 @@
 use super::Judging;
 use crate::answers::Verdict;
 use crate::damage::{changed, random_byte_changes, random_changes};
-use crate::format::{Answer, Draft, Files, Format, Question};
+use crate::format::{Answer, Draft, Files, Format, Question, CUT_SHORT};
 use crate::random::Random;
 use crate::report::Group;
 use std::fmt::Debug;
@@ -72,6 +72,7 @@ fn cut_file<F: Format>(group: &mut Group, file: &[u8], asked: &[F::Question]) {
             file,
             length,
             has_extent: extent.map(|extent| length >= extent),
+            due_tail: length.saturating_sub(extent.unwrap_or(0)) as u64,
         };
         let verdicts = [F::library_verdict(&bytes), F::reader_verdict(&bytes)];
         let is_due = cut.is_due_of_judging(&verdicts[0], &judged);
@@ -90,6 +91,8 @@ struct Cut<'a> {
     length: usize,
     /// Whether it is as long as the extent, where the full file is whole.
     has_extent: Option<bool>,
+    /// The bytes after the extent, where it is as long.
+    due_tail: u64,
 }
 
 impl Cut<'_> {
@@ -99,11 +102,16 @@ impl Cut<'_> {
         answer == full || (self.has_extent != Some(true) && answer.is_cut_short())
     }
 
-    // Judging must find the same extent in every longer cut, and none below.
+    // Judging must find the same extent in every longer cut, with what lies after it, and none below.
     fn is_due_of_judging(&self, verdict: &Verdict, full: &Verdict) -> bool {
+        let due = Verdict {
+            tail: self.due_tail,
+            ..*full
+        };
         match self.has_extent {
-            Some(false) => verdict.is_cut_short(),
-            _ => self.is_due(verdict, full),
+            Some(false) => *verdict == Verdict::refused(CUT_SHORT, verdict.entry),
+            Some(true) => *verdict == due,
+            None => self.is_due(verdict, full),
         }
     }
 

@@ -5,6 +5,7 @@ pub mod cuts;
 pub mod damaged;
 mod program_lines;
 pub mod published;
+pub mod tails;
 pub mod whole;
 
 use crate::abif::Abif;
@@ -22,8 +23,9 @@ pub fn all() -> Vec<(String, Run)> {
 
 // The groups of the format's own, and those that every format has.
 fn of<F: Format>() -> Vec<(String, Run)> {
-    let shared: [NamedRun; 8] = [
+    let shared: [NamedRun; 9] = [
         ("whole files", whole::random_files::<F>),
+        ("bytes behind the end", tails::followed_files::<F>),
         ("one rule broken", damaged::single_changes::<F>),
         ("two rules broken", damaged::pairs::<F>),
         ("several changes", damaged::several_changes::<F>),

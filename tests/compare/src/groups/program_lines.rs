@@ -1,5 +1,6 @@
 //! The built program's standard output.
 
+use super::tails;
 use crate::abif::{self, Abif};
 use crate::damage::{random_byte_changes, random_changes};
 use crate::format::{Draft, Format};
@@ -70,6 +71,9 @@ fn stored_samples(group: &mut Group, program: &Path) {
 
 fn generated_inputs() -> Vec<Vec<u8>> {
     let mut inputs = at_the_limit();
+    for file in [Abif::sample(), Sff::sample(), Gtc::sample()] {
+        inputs.extend(tails::LENGTHS.map(|length| [&file[..], &vec![b'x'; length]].concat()));
+    }
     inputs.extend(generated_files::<Abif>(999));
     inputs.extend(generated_files::<Sff>(500));
     inputs.extend(generated_files::<Gtc>(999));

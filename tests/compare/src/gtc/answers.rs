@@ -1,8 +1,8 @@
 //! The answers of the GTC functions, field by field, and the same answers made from the reader's.
 
-use super::reader::{self, Item, Judged, PlacedTransformation, Transformation};
-use crate::answers::{Found, Verdict};
-use crate::refusal::{Refusal, Refused};
+use super::reader::{self, Item, PlacedTransformation, Transformation};
+use crate::answers::Found;
+use crate::refusal::Refusal;
 
 /// How many numbers the bulk call writes for a SNP.
 pub const SNP_NUMBERS: usize = 9;
@@ -78,18 +78,6 @@ impl PartialEq for Point {
 impl From<[f32; 2]> for Point {
     fn from([x, y]: [f32; 2]) -> Point {
         Point { x, y }
-    }
-}
-
-impl From<Result<Judged, Refused>> for Verdict {
-    fn from(answer: Result<Judged, Refused>) -> Verdict {
-        match answer {
-            Ok(judged) => Verdict {
-                unjudged: judged.unjudged as u64,
-                ..Verdict::whole(judged.extent as u64)
-            },
-            Err(refused) => Verdict::refused(refused.refusal as u64, refused.entry as u64),
-        }
     }
 }
 

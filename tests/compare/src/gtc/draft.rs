@@ -130,11 +130,12 @@ impl format::Draft for Draft {
 
     fn verdict(&self) -> Verdict {
         let ends = self.items().map(|(_, entry)| entry.end());
+        let extent = ends.fold(self.table_end(), usize::max);
         let listed = listed_ids();
         let unlisted = self.entries.iter().filter(|it| !listed.contains(&it.id));
         Verdict {
             unjudged: unlisted.count() as u64,
-            ..Verdict::whole(ends.fold(self.table_end(), usize::max) as u64)
+            ..Verdict::whole(extent, self.bytes().len() - extent)
         }
     }
 

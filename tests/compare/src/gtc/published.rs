@@ -95,7 +95,7 @@ fn no_bytes(group: &mut Group) {
 fn no_entries(group: &mut Group) {
     group.input();
     let file = samples::no_entries();
-    expect_verdict::<Gtc>(group, &file, Verdict::whole(8));
+    expect_verdict::<Gtc>(group, &file, Verdict::whole(8, 0));
     expect_verdict::<Gtc>(group, &file[..7], Verdict::refused(1, 0));
     expect(group, &file, Question::Lookup(1), not_found(7));
     expect(group, &file, Question::Lookup(4), not_found(10));
@@ -119,7 +119,7 @@ fn one_value(group: &mut Group) {
         start: 10,
         length: 4,
     };
-    expect_verdict::<Gtc>(group, &file, Verdict::whole(14));
+    expect_verdict::<Gtc>(group, &file, Verdict::whole(14, 0));
     expect(group, &file, Question::Lookup(1), Answer::Found(found));
     expect(group, &file, Question::Lookup(GENOTYPES), not_found(7));
     expect_verdict::<Gtc>(group, &file[..13], Verdict::refused(1, 0));
@@ -151,7 +151,7 @@ fn genotypes(group: &mut Group) {
 fn forbidden_code(group: &mut Group) {
     group.input();
     let file = samples::code_46();
-    expect_verdict::<Gtc>(group, &file, Verdict::whole(file.len() as u64));
+    expect_verdict::<Gtc>(group, &file, Verdict::whole(file.len(), 0));
     expect(group, &file, Question::Snp(3), no_snp(11));
     expect(group, &file, Question::Snp(0), no_snp(12));
     expect(group, &file, Question::Snp(4), no_snp(12));
@@ -190,8 +190,14 @@ fn ids(group: &mut Group) {
 
 fn program_lines(group: &mut Group) {
     for (file, printed) in [
-        (samples::no_entries(), "GTC whole 8 of 8 unjudged 0\n"),
-        (samples::one_value(), "GTC whole 14 of 14 unjudged 0\n"),
+        (
+            samples::no_entries(),
+            "GTC whole 8 of 8 unjudged 0 tail 0\n",
+        ),
+        (
+            samples::one_value(),
+            "GTC whole 14 of 14 unjudged 0 tail 0\n",
+        ),
         (b"gtc".to_vec(), "GTC refused 1 at 0\n"),
         (b"gt".to_vec(), "unknown\n"),
     ] {

@@ -1,6 +1,7 @@
 //! A GTC reader written from the rules of the format alone.
 
 use super::answers::{self, SNP_NUMBERS};
+use crate::judged::Judged;
 use crate::little_endian::{u16_at, u32_at};
 use crate::refusal::{Refusal, Refused};
 use std::ops::Range;
@@ -92,12 +93,6 @@ pub struct Item {
     pub count: u64,
     pub part: Range<usize>,
     end: usize,
-}
-
-#[derive(Clone, Copy, Debug, PartialEq, Eq)]
-pub struct Judged {
-    pub extent: usize,
-    pub unjudged: usize,
 }
 
 #[derive(Clone, Copy, Debug, PartialEq, Eq)]
@@ -273,7 +268,6 @@ impl<'a> Table<'a> {
     }
 }
 
-/// The extent of a whole file and the number of its entries that are not judged.
 pub fn judge(bytes: &[u8]) -> Result<Judged, Refused> {
     let table = Table::of(bytes).map_err(|refusal| refusal.at(0))?;
     let mut extent = table.end();
@@ -290,7 +284,10 @@ pub fn judge(bytes: &[u8]) -> Result<Judged, Refused> {
         let item = item.map_err(|refusal| refusal.at(index + 1))?;
         extent = extent.max(item.end);
     }
-    Ok(Judged { extent, unjudged })
+    Ok(Judged {
+        unjudged,
+        ..Judged::up_to(extent, bytes)
+    })
 }
 
 /// The item with this id.

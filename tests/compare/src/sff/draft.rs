@@ -207,7 +207,8 @@ impl format::Draft for Draft {
     }
 
     fn verdict(&self) -> Verdict {
-        Verdict::whole(self.layout().end as u64)
+        let extent = self.layout().end;
+        Verdict::whole(extent, self.bytes().len() - extent)
     }
 
     // With the reads' flow steps.

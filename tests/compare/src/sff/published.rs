@@ -58,7 +58,7 @@ fn no_reads(group: &mut Group) {
         key_start: 35,
         ..Header::default()
     };
-    expect_verdict::<Sff>(group, &file, Verdict::whole(40));
+    expect_verdict::<Sff>(group, &file, Verdict::whole(40, 0));
     expect(group, &file, Question::Header, Answer::Header(header));
     expect(group, &file, Question::Read(1), no_read(7));
     expect_verdict::<Sff>(group, &file[..39], Verdict::refused(1, 0));
@@ -87,7 +87,7 @@ fn one_read(group: &mut Group) {
         insert_start: 76,
         insert_length: 2,
     };
-    expect_verdict::<Sff>(group, &file, Verdict::whole(88));
+    expect_verdict::<Sff>(group, &file, Verdict::whole(88, 0));
     expect(group, &file, Question::Read(1), Answer::Read(read));
     expect(group, &file, Question::Read(2), no_read(7));
     expect(group, &file, flow(1, 1), flow_answer(0, 1));
@@ -104,8 +104,8 @@ fn one_read(group: &mut Group) {
 
 fn program_lines(group: &mut Group) {
     for (file, printed) in [
-        (samples::no_reads(), "SFF whole 40 of 40\n"),
-        (samples::one_read(), "SFF whole 88 of 88\n"),
+        (samples::no_reads(), "SFF whole 40 of 40 tail 0\n"),
+        (samples::one_read(), "SFF whole 88 of 88 tail 0\n"),
     ] {
         expect_lines(group, &file, printed);
     }

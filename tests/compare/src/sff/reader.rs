@@ -2,6 +2,7 @@
 
 use super::answers::{self, READ_NUMBERS};
 use crate::big_endian::{u16_at, u32_at, u64_at};
+use crate::judged::Judged;
 use crate::refusal::{Refusal, Refused};
 use std::ops::Range;
 
@@ -156,8 +157,7 @@ fn frame_at(bytes: &[u8], start: usize, flows: u16) -> Result<Frame<'_>, Refusal
     })
 }
 
-/// The extent of a whole file.
-pub fn judge(bytes: &[u8]) -> Result<usize, Refused> {
+pub fn judge(bytes: &[u8]) -> Result<Judged, Refused> {
     let in_no_read = |refusal: Refusal| refusal.at(0);
     let mut walk = Walk::begin(bytes).map_err(in_no_read)?;
     for number in 1..=walk.header.reads as usize {
@@ -168,7 +168,7 @@ pub fn judge(bytes: &[u8]) -> Result<usize, Refused> {
     if walk.header.index_offset != 0 && !walk.index_met {
         return Err(Refusal::BadHeader.at(0));
     }
-    Ok(walk.position)
+    Ok(Judged::up_to(walk.position, bytes))
 }
 
 /// The read with this number, from one.

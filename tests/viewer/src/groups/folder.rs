@@ -29,6 +29,7 @@ pub fn folder(group: &mut Group) {
         &["shelf/a", "alone.sff", "shelf/a/b", "alone.sff"],
     );
     compare_paths(group, folder, &["whole"]);
+    compare_paths(group, folder, &["one"]);
     compare_paths(group, folder, &["shelf/empty"]);
     with_a_pipe(group, folder);
     with_a_missing_folder(group, folder);
@@ -44,6 +45,7 @@ fn fill(scratch: &Scratch) {
         "shelf/a.d",
         "shelf/empty",
         "whole",
+        "one",
     ];
     for folder in folders {
         fs::create_dir(scratch.path(folder)).expect("a new folder");
@@ -63,6 +65,8 @@ fn fill(scratch: &Scratch) {
     scratch.write("alone.sff", &compare::sff::samples::one_read());
     scratch.write("whole/1.sff", &compare::sff::samples::one_read());
     scratch.write("whole/2.gtc", &compare::gtc::samples::three_snps());
+    let followed = [&compare::sff::samples::one_read()[..], b"x"].concat();
+    scratch.write("one/1.sff", &followed);
     symlink("../whole", scratch.path("shelf/link")).expect("a new link");
     symlink("..", scratch.path("shelf/a/up")).expect("a new link");
 }
@@ -73,6 +77,7 @@ struct Tally {
     lines: Vec<u8>,
     files: usize,
     whole: usize,
+    with_tail: usize,
     unknown: usize,
     unreadable: usize,
     refused: BTreeMap<u64, usize>,
@@ -115,6 +120,8 @@ impl Tally {
         };
         self.lines
             .extend(verdict::lines(path.as_os_str().as_bytes(), &bytes));
+        let tail = verdict::whole(&bytes).map_or(0, |judged| judged.tail);
+        self.with_tail += usize::from(tail > 0);
         match verdict::refused(&bytes) {
             Some(it) => {
                 *self.refused.entry(it.refusal as u64).or_default() += 1;
@@ -130,6 +137,13 @@ impl Tally {
             "{} files: {} whole, {refused} refused, {} unknown, {} not readable\n",
             self.files, self.whole, self.unknown, self.unreadable
         );
+        match self.with_tail {
+            0 => {}
+            1 => text.push_str("  1 whole file with bytes behind the end\n"),
+            count => text.push_str(&format!(
+                "  {count} whole files with bytes behind the end\n"
+            )),
+        }
         for (&number, &count) in &self.refused {
             let files = if count == 1 { "file" } else { "files" };
             let words = sentences::words(number);

@@ -3,6 +3,7 @@
 use crate::program::{lines_begin, output, repository, Output, Program};
 use crate::scratch::Scratch;
 use crate::verdict;
+use compare::groups::tails::LENGTHS;
 use compare::report::Group;
 use compare::samples::{self, Sample};
 use std::ffi::OsString;
@@ -56,7 +57,7 @@ fn all_lines(paths: &[String], samples: &[Sample]) -> Vec<u8> {
 fn long_files(group: &mut Group) {
     let scratch = Scratch::new();
     for (name, bytes) in samples::all() {
-        for more in [1, LONG] {
+        for more in LENGTHS.into_iter().chain([LONG]) {
             let bytes = [&bytes[..], &vec![0; more]].concat();
             let path = scratch.write(name, &bytes);
             let path = path.to_string_lossy().into_owned();

@@ -2,6 +2,7 @@
 
 use super::cuts::cuts;
 use super::damaged::{abif_files, gtc_files, sff_files};
+use super::tails::followed;
 use crate::drawing::Input;
 use crate::findings::Findings;
 use crate::program::{Output, Program};
@@ -31,6 +32,7 @@ const MOST_TAGS: usize = 30;
 
 pub fn list_and_show(group: &mut Group) {
     let mut inputs = Input::samples();
+    inputs.extend(followed());
     inputs.extend(abif_files(DAMAGED));
     inputs.extend(sff_files(DAMAGED));
     inputs.extend(gtc_files(DAMAGED));

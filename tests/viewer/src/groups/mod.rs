@@ -21,12 +21,13 @@ mod printed;
 mod rows;
 mod sanitized;
 pub mod stored;
+mod tails;
 mod terminal;
 mod well_formed;
 
 use compare::report::Run;
 
-pub const ALL: [(&str, Run); 29] = [
+pub const ALL: [(&str, Run); 30] = [
     ("lines", lines::lines),
     ("folder", folder::folder),
     ("stored", stored::compare),
@@ -42,6 +43,7 @@ pub const ALL: [(&str, Run); 29] = [
     ("fragments", dyes::fragments),
     ("orders", orders::orders),
     ("long files", long_files::long_files),
+    ("bytes behind the end", tails::tails),
     ("cuts ABIF", cuts::abif),
     ("cuts SFF", cuts::sff),
     ("cuts GTC", cuts::gtc),

@@ -84,7 +84,7 @@ pub fn check_pages(findings: &mut Findings, root: &Element, paper: Paper) {
         });
     }
     for page in pages.iter().skip(1) {
-        for class in ["meaning", "entry", "tail"] {
+        for class in ["meaning", "entry", "tail", "tail-strip"] {
             let count = of_class(page, class).len();
             findings.check(count == 0, || format!("{count} of {class} on a later page"));
         }

@@ -15,7 +15,7 @@ pub fn read_back(group: &mut Group, items: &[(Tag, Content)], file: &[u8]) {
     group.check(file == built, file, || {
         format!("not the file built from {items:?}")
     });
-    let whole = Verdict::whole(file.len() as u64);
+    let whole = Verdict::whole(file.len(), 0);
     let judged = [library::judge(file), reader::judge(file).into()];
     group.check(judged == [whole; 2], file, || {
         format!("library and reader judge {judged:?}")

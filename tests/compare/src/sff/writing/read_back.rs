@@ -18,7 +18,7 @@ pub fn read_back(group: &mut Group, letters: &[Vec<u8>; 2], reads: &[Read], file
     group.check(file == draft.bytes(), file, || {
         format!("not the file built from {reads:?}")
     });
-    let whole = Verdict::whole(file.len() as u64);
+    let whole = Verdict::whole(file.len(), 0);
     let judged = [library::judge(file), reader::judge(file).into()];
     group.check(judged == [whole; 2], file, || {
         format!("library and reader judge {judged:?}")
