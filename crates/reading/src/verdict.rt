@@ -12,7 +12,7 @@ pub enum Verdict {
     Refused { number: u8, entry: usize },
 }
 
-// The length less the extent, which is no larger than it.
+// How many bytes lie after the extent; 0 if it is past the length, as no file's is.
 fn tail_of(extent: usize, length: usize) -> usize
     ensures { λ r. ⌜ r ≡ length - extent ⌝ }
 {

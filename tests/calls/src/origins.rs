@@ -1,4 +1,4 @@
-//! Where the names of a file come from, and the definitions that its texts hand to `answer`.
+//! Where the names of a file come from, and the definitions whose answers its texts speak of.
 
 use crate::words::{group, last, words};
 use std::collections::BTreeMap;
@@ -6,6 +6,9 @@ use std::fmt;
 
 /// The definition that makes a call one of an opened file.
 pub const OF_OPENED: &str = "ofOpened";
+
+/// What a promise says of a definition, which stands next: what its checks answer, and judging's verdict by them.
+const ANSWERS: [&str; 2] = ["answer", "verdictOf"];
 
 /// What makes a reading call of a definition: the definition stands next.
 const CALLS: [&str; 3] = ["plain", "handing", "filling"];
@@ -55,11 +58,11 @@ impl Origins {
         self.used.get(name).cloned().unwrap_or_else(own)
     }
 
-    /// The definitions that are handed to `answer`, each once.
+    /// The definitions whose answers these words speak of, each once.
     pub fn answered(&self, words: &[&str]) -> Vec<Origin> {
         let mut found = Vec::new();
         for (place, word) in words.iter().enumerate() {
-            if self.origin(word).name == "answer" {
+            if ANSWERS.contains(&&*self.origin(word).name) {
                 let behind = &words[place + 1..];
                 found.extend(match behind.first() {
                     Some(&"(") => self.definition(group(behind)),

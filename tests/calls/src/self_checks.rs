@@ -139,14 +139,14 @@ const NEW_CALLS: [Change; 11] = [
 const OTHER_DEFINITIONS: [Change; 15] = [
     (
         JUDGE,
-        "answer judging",
-        "answer seeming",
+        "verdictOf judging",
+        "verdictOf seeming",
         &["toy::judge::judge: its ensures cites toy.seeming, but constructor judge in Toy.antt is toy.Judge.judging"],
     ),
     (
         JUDGE,
-        "answer judging (now",
-        "answer (lookingUp judging) (now",
+        "verdictOf judging (λ",
+        "verdictOf (lookingUp judging) (λ",
         &["toy::judge::judge: its ensures cites toy.lookingUp, but constructor judge in Toy.antt is toy.Judge.judging"],
     ),
     (

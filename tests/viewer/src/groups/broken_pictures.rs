@@ -288,12 +288,32 @@ const GTC: [(&str, Break); 4] = [
     ("no box for the SNPs", |text| without_boxes(text, "SNPs")),
 ];
 
+/// A whole file with 25 bytes behind its end.
+const TAILS: [(&str, Break); 5] = [
+    ("nothing told of the tail", |text| {
+        replaced(text, "class=\"tail\"", "class=\"other\"")
+    }),
+    ("a tail of another length", |text| {
+        replaced(text, ">Whole, 25 bytes", ">Whole, 26 bytes")
+    }),
+    ("no box for the tail", |text| {
+        without(text, "<rect class=\"tail-strip\"", "/>")
+    }),
+    ("a box for the tail that looks as the file's", |text| {
+        replaced_behind(text, "\"tail-strip\"", " stroke-dasharray=\"4 3\"", "")
+    }),
+    ("a box for the tail that is too wide", |text| {
+        replaced_behind(text, "\"tail-strip\"", " width=\"", " width=\"1")
+    }),
+];
+
 pub fn broken_pictures(group: &mut Group) {
     let cut_run = Subject::sample("cut-run.ab1");
     cut_run.break_all(group, ABIF.iter().chain(&ALL).chain(&LOOKS));
     cut_run.on(Paper::A4).break_all(group, PAGES.iter());
     Subject::sample("run.sff").break_all(group, SFF.iter());
     Subject::sample("cut-run.gtc").break_all(group, GTC.iter().chain(&ALL));
+    Subject::sample("bytes-behind-the-end.ab1").break_all(group, TAILS.iter());
     let ends = run([700, 400, 90, 900], Order::DirectoryFirst);
     Subject::new("ends.ab1", ends).break_all(group, ENDS.iter());
     Subject::new("fragments.fsa", fragments()).break_all(group, FRAGMENTS.iter());

@@ -80,8 +80,9 @@ const EXPORTED: [(&str, &str); 12] = [
 const HELPED: [&[&str]; 5] = [&[], &["list"], &["show"], &["draw"], &["export"]];
 
 /// Small files that are drawn.
-const DRAWN: [&str; 12] = [
+const DRAWN: [&str; 13] = [
     "one-inline-item.ab1",
+    "bytes-behind-the-end.ab1",
     "cut-in-the-directory.ab1",
     "tag-twice.ab1",
     "one-read.sff",
