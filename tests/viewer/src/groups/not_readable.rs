@@ -86,10 +86,10 @@ fn closed_to_the_program(group: &mut Group, scratch: &Scratch) {
     let Ok(output) = output(command) else {
         return group.check(false, &[], || "the program does not run".to_string());
     };
-    let expected = "a.sff: SFF whole 88 of 88\n\
-                    ./a.sff: SFF whole 88 of 88\n\
-                    ./d.sff: SFF whole 88 of 88\n\
-                    ./long.sff: SFF whole 2400032 of 2400032\n\
+    let expected = "a.sff: SFF whole 88 of 88 tail 0\n\
+                    ./a.sff: SFF whole 88 of 88 tail 0\n\
+                    ./d.sff: SFF whole 88 of 88 tail 0\n\
+                    ./long.sff: SFF whole 2400032 of 2400032 tail 0\n\
                     7 files: 4 whole, 0 refused, 0 unknown, 3 not readable\n";
     let printed = output.stdout_text();
     group.check(printed == expected, &[], || format!("printed {printed:?}"));
