@@ -22,7 +22,7 @@ ghost use Rattle.reading.specs.Check.{answer, mapAnswer};
 ghost use Rattle.reading.specs.Verdict.{verdictOf};
 ghost use Rattle.abif.specs.Directory.{opening};
 ghost use Rattle.abif.specs.Answers.{answerOfOpened};
-ghost use Rattle.abif.specs.Judge.{judging};
+ghost use Rattle.abif.specs.Judge.{judging, extentOf};
 ghost use Rattle.abif.specs.Lookup.{lookingUp};
 ghost use Rattle.abif_elements.specs.Element.{elementReading};
 ghost use Rattle.abif_elements.specs.Answers.{answerOfElement, answerOfText};
@@ -35,7 +35,7 @@ ghost use Rattle.capi.specs.Abif.{asOpened, asElement, numberElement, fi
 // Whether the bytes are a whole ABIF file, with its extent and its tail.
 #[no_mangle]
 pub extern "C" fn jt_abif_judge(s: &[u8]) -> Verdict
-    ensures { λ r. ⌜ r ≡ asVerdict (verdictOf judging (λ x. x) (now (s .entry))) ⌝ }
+    ensures { λ r. ⌜ r ≡ asVerdict (verdictOf judging extentOf (now (s .entry))) ⌝ }
 {
     as_verdict(judge::judge(s))
 }

@@ -22,7 +22,7 @@ ghost use Rattle.reading.specs.Check.{answer, mapAnswer};
 ghost use Rattle.reading.specs.Verdict.{verdictOf};
 ghost use Rattle.reading.specs.Lent.{filled};
 ghost use Rattle.reading.specs.Bulk.{records};
-ghost use Rattle.gtc.specs.Judge.{judging};
+ghost use Rattle.gtc.specs.Judge.{judging, extentOf};
 ghost use Rattle.gtc.specs.Answers.{answerOfVerdict};
 ghost use Rattle.gtc.specs.Lookup.{lookingUp};
 ghost use Rattle.gtc_records.specs.Answers.{answerOfSnpRead, answerOfTransformationRead};
@@ -61,7 +61,7 @@ fn as_judged(v: judge::Verdict) -> Verdict
 // Whether the bytes are a whole GTC file, with its extent, its unjudged entries and its tail.
 #[no_mangle]
 pub extern "C" fn jt_gtc_judge(s: &[u8]) -> Verdict
-    ensures { λ r. ⌜ r ≡ asJudged (verdictOf judging (λ v. v .extent) (now (s .entry))) ⌝ }
+    ensures { λ r. ⌜ r ≡ asJudged (verdictOf judging extentOf (now (s .entry))) ⌝ }
 {
     as_judged(judge::judge(s))
 }

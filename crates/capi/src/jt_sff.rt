@@ -22,7 +22,7 @@ ghost use Rattle.reading.specs.Lent.{filled};
 ghost use Rattle.reading.specs.Bulk.{records};
 ghost use Rattle.sff.specs.Header.{header as headerReading};
 ghost use Rattle.sff.specs.Answers.{answerOfHeaderFound, answerOfFlow};
-ghost use Rattle.sff.specs.Judge.{judging};
+ghost use Rattle.sff.specs.Judge.{judging, extentOf};
 ghost use Rattle.sff.specs.Lookup.{readReading};
 ghost use Rattle.sff_fields.specs.Answers.{answerOfReadFound};
 ghost use Rattle.sff.specs.Reads.{readsReading};
@@ -34,7 +34,7 @@ ghost use Rattle.capi.specs.Sff.{asHeader, readStruct, refusedRead, asRe
 // Whether the bytes are a whole SFF file, with its extent and its tail.
 #[no_mangle]
 pub extern "C" fn jt_sff_judge(s: &[u8]) -> Verdict
-    ensures { λ r. ⌜ r ≡ asVerdict (verdictOf judging (λ x. x) (now (s .entry))) ⌝ }
+    ensures { λ r. ⌜ r ≡ asVerdict (verdictOf judging extentOf (now (s .entry))) ⌝ }
 {
     as_verdict(judge::judge(s))
 }

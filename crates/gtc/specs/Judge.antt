@@ -57,3 +57,7 @@ unfoldable pub judging : Check Extent
 judging = do
   contents ← table
   judgeTable (contents .upTo) (contents .count)
+
+-- the extent in what judging answers
+abbrev pub extentOf : Extent → ℕ
+extentOf answered = answered .extent

@@ -34,7 +34,7 @@ ghost use Rattle.reading.specs.Answers.{outcomeOfEnded};
 ghost use Rattle.gtc.specs.Table.{entryPlace, tableEnd};
 ghost use Rattle.gtc.specs.declared.item.Listing.the-variants.{Listed};
 ghost use Rattle.gtc.specs.Item.{listingOf, isListed};
-ghost use Rattle.gtc.specs.Judge.{isEarlier, judgeAs, judgeEntry, unjudgedAmong, judgeTable, judging};
+ghost use Rattle.gtc.specs.Judge.{isEarlier, judgeAs, judgeEntry, unjudgedAmong, judgeTable, judging, extentOf};
 ghost use Rattle.gtc.specs.Answers.{answerOfVerdict};
 
 // The requirement that is no comparison with a number: an id that no earlier entry has.
@@ -148,7 +148,7 @@ fn unjudged_among(h: &[u8], n: usize) -> usize
 
 fn judge_table(s: &[u8], h: &[u8], n: usize) -> Verdict
     requires { ⌜ tableEnd n ≤ length (now h) ⌝ }
-    ensures { λ r. ⌜ answerOfVerdict r ≡ verdictOf (judgeTable (now (h .entry)) n) (λ v. v .extent) (now (s .entry)) ⌝ }
+    ensures { λ r. ⌜ answerOfVerdict r ≡ verdictOf (judgeTable (now (h .entry)) n) extentOf (now (s .entry)) ⌝ }
 {
     match verdict_of(explain_entries(s, h, n), s.len()) {
         verdict::Verdict::Whole { extent, tail } => Verdict::Whole {
@@ -162,7 +162,7 @@ fn judge_table(s: &[u8], h: &[u8], n: usize) -> Verdict
 
 // Judges the file: whether it is whole, with its extent, its unjudged entries and its tail, or the refusal and its entry.
 pub fn judge(s: &[u8]) -> Verdict
-    ensures { λ r. ⌜ answerOfVerdict r ≡ verdictOf judging (λ v. v .extent) (now (s .entry)) ⌝ }
+    ensures { λ r. ⌜ answerOfVerdict r ≡ verdictOf judging extentOf (now (s .entry)) ⌝ }
 {
     match read_table(s) {
         Counted::Failed(t) => Verdict::Refused {

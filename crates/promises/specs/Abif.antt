@@ -7,7 +7,7 @@ use lib.ListN.{length, drop}
 use Rattle.reading.specs.Check.{ok, refused, answer}
 use Rattle.abif_file.specs.declared.entry.RawEntry.{RawEntry}
 use Rattle.abif.specs.Directory.{opening}
-use Rattle.abif.specs.Judge.{judging}
+use Rattle.abif.specs.Judge.{judging, extentOf}
 use Rattle.abif.specs.Lookup.{lookingUp}
 use Rattle.reading.specs.Item.{dataSpan}
 use Rattle.abif_elements.specs.Element.{elementReading}
@@ -76,7 +76,7 @@ call (of c) = fileCall c
 call (opened place count c) = later place count (fileCall c)
 
 abbrev pub abif : Format
-abif = record { Call = Call; call = call; judging = judge; extent = λ x. x }
+abif = record { Call = Call; call = call; judging = judge; extent = extentOf }
 
 -- Record j of a list, from 0, is entry j + 1, and there is a record for each entry.
 pub record ListOfEntries (s : List ℕ) (es : List RawEntry) : Type 0 where

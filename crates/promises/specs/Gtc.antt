@@ -3,7 +3,7 @@ use Prim.Native.Nat.{ℕ}
 use mathlib.Core.List.{List}
 use lib.ListN.{length}
 use Rattle.reading.specs.Bulk.{records}
-use Rattle.gtc.specs.Judge.{judging}
+use Rattle.gtc.specs.Judge.{judging, extentOf}
 use Rattle.gtc.specs.Lookup.{lookingUp}
 use Rattle.reading.specs.Item.{dataSpan}
 use Rattle.gtc_records.specs.Snp.{snpReading}
@@ -34,4 +34,4 @@ call (snps first out) = filling (snpsReading first (length out)) (records 9 snpN
 call (transformation number) = handing (transformationReading number) transformationSpan
 
 abbrev pub gtc : Format
-gtc = record { Call = Call; call = call; judging = judge; extent = λ v. v .extent }
+gtc = record { Call = Call; call = call; judging = judge; extent = extentOf }

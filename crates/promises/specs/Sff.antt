@@ -6,7 +6,7 @@ use Rattle.reading.specs.Bulk.{records}
 use Rattle.sff_fields.specs.declared.parts.ReadPart.{ReadPart}
 use Rattle.sff_fields.specs.declared.position.BasePosition.{BasePosition}
 use Rattle.sff.specs.Header.{header}
-use Rattle.sff.specs.Judge.{judging}
+use Rattle.sff.specs.Judge.{judging, extentOf}
 use Rattle.sff.specs.Lookup.{readReading}
 use Rattle.sff_fields.specs.Parts.{spanOf, readNumbers}
 use Rattle.sff.specs.Reads.{readsReading}
@@ -36,4 +36,4 @@ call (reads first out) = filling (readsReading first (length out)) (records 17 r
 call (flowOfBase number base) = plain (flowReading number base)
 
 abbrev pub sff : Format
-sff = record { Call = Call; call = call; judging = judge; extent = λ x. x }
+sff = record { Call = Call; call = call; judging = judge; extent = extentOf }

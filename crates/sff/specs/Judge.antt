@@ -33,3 +33,7 @@ unfoldable pub judging : Check ℕ
 judging = do
   fields ← header
   judgingReads fields
+
+-- the extent in what judging answers
+abbrev pub extentOf : ℕ → ℕ
+extentOf extent = extent

@@ -21,7 +21,7 @@ ghost use Rattle.reading.specs.Check.{run};
 ghost use Rattle.reading.specs.Verdict.{verdictOf};
 ghost use Rattle.reading.specs.Explain.{explanationOf};
 ghost use Rattle.reading.specs.Answers.{answerOfVerdict};
-ghost use Rattle.sff.specs.Judge.{ending, judging, judgingReads};
+ghost use Rattle.sff.specs.Judge.{ending, judging, judgingReads, extentOf};
 
 // What stands behind the last read.
 fn explain_ending(s: &[u8], d: Header, b: Boundary) -> Explanation
@@ -88,7 +88,7 @@ fn explain(s: &[u8]) -> Explanation
 
 // Judges the file: whether it is whole, with its extent and its tail, or the refusal and its read.
 pub fn judge(s: &[u8]) -> Verdict
-    ensures { λ r. ⌜ answerOfVerdict r ≡ verdictOf judging (λ x. x) (now (s .entry)) ⌝ }
+    ensures { λ r. ⌜ answerOfVerdict r ≡ verdictOf judging extentOf (now (s .entry)) ⌝ }
 {
     verdict_of(explain(s), s.len())
 }

@@ -145,14 +145,14 @@ const OTHER_DEFINITIONS: [Change; 15] = [
     ),
     (
         JUDGE,
-        "verdictOf judging (λ",
-        "verdictOf (lookingUp judging) (λ",
+        "verdictOf judging extentOf",
+        "verdictOf (lookingUp judging) extentOf",
         &["toy::judge::judge: its ensures cites toy.lookingUp, but constructor judge in Toy.antt is toy.Judge.judging"],
     ),
     (
         JUDGE,
-        "Rattle.toy.specs.Judge.{judging, verdict}",
-        "Rattle.other.specs.Judge.{judging, verdict}",
+        "Rattle.toy.specs.Judge.{judging, verdict, extentOf}",
+        "Rattle.other.specs.Judge.{judging, verdict, extentOf}",
         &["toy::judge::judge: its ensures cites other.Judge.judging, but constructor judge in Toy.antt is toy.Judge.judging"],
     ),
     (

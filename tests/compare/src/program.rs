@@ -7,6 +7,7 @@ use crate::{abif, gtc, sff};
 use std::fmt::Write;
 
 const MOST_BYTES: usize = 65_536;
+const GTC: &str = "GTC";
 
 pub fn lines(input: &[u8]) -> String {
     if input.len() > MOST_BYTES {
@@ -20,28 +21,17 @@ pub fn lines_of_any_length(input: &[u8]) -> String {
     if input.starts_with(b"ABIF") {
         abif_lines(input)
     } else if input.starts_with(b".sff") {
-        first_line("SFF", input, sff::reader::judge(input), |_| String::new())
+        first_line("SFF", input, sff::reader::judge(input))
     } else if input.starts_with(b"gtc") {
-        let unjudged = |judged: Judged| format!(" unjudged {}", judged.unjudged);
-        first_line("GTC", input, gtc::reader::judge(input), unjudged)
+        first_line(GTC, input, gtc::reader::judge(input))
     } else {
         "unknown\n".to_string()
     }
 }
 
-// The format's own words of a whole file stand before its tail.
-fn first_line(
-    format: &str,
-    input: &[u8],
-    judged: Result<Judged, Refused>,
-    own: impl Fn(Judged) -> String,
-) -> String {
+fn first_line(format: &str, input: &[u8], judged: Result<Judged, Refused>) -> String {
     match judged {
-        Ok(judged) => {
-            let Judged { extent, tail, .. } = judged;
-            let (length, own) = (input.len(), own(judged));
-            format!("{format} whole {extent} of {length}{own} tail {tail}\n")
-        }
+        Ok(judged) => whole_line(format, input.len(), judged),
         Err(refused) => {
             let number = refused.refusal as u64;
             format!("{format} refused {number} at {}\n", refused.entry)
@@ -49,10 +39,20 @@ fn first_line(
     }
 }
 
+// Of the three formats GTC alone has entries that are not judged.
+fn whole_line(format: &str, length: usize, judged: Judged) -> String {
+    let mut text = format!("{format} whole {} of {length}", judged.extent);
+    if format == GTC {
+        let _ = write!(text, " unjudged {}", judged.unjudged);
+    }
+    let _ = writeln!(text, " tail {}", judged.tail);
+    text
+}
+
 // Only a whole file has lines for its entries.
 fn abif_lines(input: &[u8]) -> String {
     let judged = abif::reader::judge(input);
-    let mut text = first_line("ABIF", input, judged, |_| String::new());
+    let mut text = first_line("ABIF", input, judged);
     if let (Ok(_), Ok(directory)) = (judged, abif::reader::open(input)) {
         for entry in directory.entries(input) {
             text.push_str(&entry_line(&entry));

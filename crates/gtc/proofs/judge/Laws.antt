@@ -31,7 +31,7 @@ use Rattle.gtc.specs.Table.{tableEnd, entryPlace}
 use Rattle.gtc.specs.Entry.{entryOf, idField}
 use Rattle.gtc.specs.Item.{listingOf, isListed, itemCheck, itemEnd}
 use Rattle.gtc.specs.Answers.{outcomeOfItemRead}
-use Rattle.gtc.specs.Judge.{isEarlier, newId, judgeAs, judgeEntry, unjudgedAmong, judgeTable}
+use Rattle.gtc.specs.Judge.{isEarlier, newId, judgeAs, judgeEntry, unjudgedAmong, judgeTable, extentOf}
 
 -- one entry more is counted
 pub unjudged-on : (h : List ℕ) (u v i m : ℕ) → v ≡ pick (isListed (listingOf (le 2 h (entryPlace i)))) 0 1 → u + unjudgedAmong h (suc m) i ≡ u + v + unjudgedAmong h m (i + 1)
@@ -67,15 +67,15 @@ module _ (s h : List ℕ) (n : ℕ) (r : Explanation) (q : r ≡ explanationOf (
   entries-answer : answerOfExplanation r ≡ answer (inOrder (judgeEntry h n) n 0 (tableEnd n)) s
   entries-answer = answer-explained (inOrder (judgeEntry h n) n 0 (tableEnd n)) s r q
 
-  pub table-refused : (k e : ℕ) → withTail (λ x. x) (length s) (answerOfExplanation r) ≡ refused k e → refused k e ≡ verdictOf (judgeTable h n) (λ v. v .extent) s
+  pub table-refused : (k e : ℕ) → withTail (λ x. x) (length s) (answerOfExplanation r) ≡ refused k e → refused k e ≡ verdictOf (judgeTable h n) extentOf s
   unfolding judgeTable
-  table-refused k e w = ap (withTail (λ v. v .extent) (length s)) (bind-refused _ _ s k e (sym entries-answer ∙ tail-refused _ _ _ k e w))
+  table-refused k e w = ap (withTail extentOf (length s)) (bind-refused _ _ s k e (sym entries-answer ∙ tail-refused _ _ _ k e w))
 
   whole-answer : (x u : ℕ) → answerOfExplanation r ≡ ok x → u ≡ unjudgedAmong h n 0 → ok (record { extent = x; unjudged = u }) ≡ answer (judgeTable h n) s
   unfolding judgeTable
   whole-answer x u w v = rw v (sym (answer-done _ s) ∙ bind-answered _ _ s x (sym entries-answer ∙ w))
 
-  pub table-whole : (x t u : ℕ) → withTail (λ x. x) (length s) (answerOfExplanation r) ≡ ok (x, t) → u ≡ unjudgedAmong h n 0 → ok (record { extent = x; unjudged = u }, t) ≡ verdictOf (judgeTable h n) (λ v. v .extent) s
+  pub table-whole : (x t u : ℕ) → withTail (λ x. x) (length s) (answerOfExplanation r) ≡ ok (x, t) → u ≡ unjudgedAmong h n 0 → ok (record { extent = x; unjudged = u }, t) ≡ verdictOf (judgeTable h n) extentOf s
   table-whole x t u w v =
       let a = tail-ok (λ x. x) (length s) (answerOfExplanation r) x t w in
-      rw (a .1) (ap (withTail (λ v. v .extent) (length s)) (whole-answer x u (a .0) v))
+      rw (a .1) (ap (withTail extentOf (length s)) (whole-answer x u (a .0) v))

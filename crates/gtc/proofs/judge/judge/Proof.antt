@@ -8,12 +8,12 @@ use native.Mathlib.Omega.{arith}
 use lib.ListN.{length, length-take}
 use Rattle.reading.specs.Check.{Answer}
 use Rattle.reading.specs.Verdict.{withTail}
-use Rattle.gtc.specs.Judge.{Extent, judgeTable, judging}
+use Rattle.gtc.specs.Judge.{Extent, judgeTable, judging, extentOf}
 use Rattle.gtc.proofs.table.Laws.{table-at, count-known, after-failed, after-short, after-count}
 
 -- what the checks answer of the file s, with its tail
 abbrev tailed : List ℕ → Answer Extent → Answer (Extent × ℕ)
-tailed s = withTail (λ v. v .extent) (length s)
+tailed s = withTail extentOf (length s)
 
 read-table-requires : tie.Need-read-table-requires
 read-table-requires c κs = search needs
