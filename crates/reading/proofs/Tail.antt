@@ -1,9 +1,18 @@
--- What judging's checks have answered, from the verdict with its tail.
+-- The verdict with its tail: from the explanation, and what judging's checks have answered from it.
 use Prim.Native.Nat.{ℕ, _-_}
 use mathlib.Core.Path.{_≡_, sym, ap}
-use Rattle.reading.specs.Check.{Answer, ok, refused}
-use Rattle.reading.specs.Verdict.{withTail}
+use mathlib.Core.List.{List}
+use lib.ListN.{length}
+use Rattle.reading.specs.declared.check.Explanation.{Explanation}
+use Rattle.reading.specs.Check.{Check, Answer, ok, refused, run}
+use Rattle.reading.specs.Explain.{explanationOf}
+use Rattle.reading.specs.Answers.{answerOfExplanation}
+use Rattle.reading.specs.Verdict.{withTail, verdictOf}
 use Rattle.reading.proofs.Passed.{not-ok, ok-inj}
+use Rattle.reading.proofs.Explained.{answer-explained}
+
+pub verdict-explained : (t : Check ℕ) (s : List ℕ) (r : Explanation) → r ≡ explanationOf (run t s) → withTail (λ x. x) (length s) (answerOfExplanation r) ≡ verdictOf t (λ x. x) s
+verdict-explained t s r e = ap (withTail (λ x. x) (length s)) (answer-explained t s r e)
 
 module _ {A : Type 0} (extent : A → ℕ) (n : ℕ) where
   pub tail-ok : (r : Answer A) (v : A) (t : ℕ) → withTail extent n r ≡ ok (v, t) → (r ≡ ok v) × (t ≡ n - extent v)

@@ -1,7 +1,5 @@
-use mathlib.Core.Path.{_∙_, ap}
-use lib.ListN.{length}
-use Rattle.reading.specs.Verdict.{withTail}
-use Rattle.reading.proofs.Explained.{answer-explained}
+use mathlib.Core.Path.{_∙_}
+use Rattle.reading.proofs.Tail.{verdict-explained}
 use Rattle.sff.specs.Judge.{judging}
 use borrow.Author.Needs.{needs}
 use Rattle.sff.proofs.judge.judge.Statement.{statement}
@@ -14,9 +12,7 @@ verdict-of-requires : tie.Need-verdict-of-requires
 verdict-of-requires c κs = search needs
 
 returns : tie.Need-returns
-returns c =
-    let s = c .before .before .before .args .s .now in
-    c .verdict-of .ensures ∙ ap (withTail (λ x. x) (length s)) (answer-explained judging s _ (c .before .explain .ensures))
+returns c = c .verdict-of .ensures ∙ verdict-explained judging (c .before .before .before .args .s .now) _ (c .before .explain .ensures)
 
 pub judge-spec : {M : Type 1} → statement M
 judge-spec = tie.close (tie.spec explain-requires verdict-of-requires returns)
