@@ -20,6 +20,8 @@ pub struct Function {
     pub is_of_opened: bool,
     /// The definitions whose answers the promise speaks of.
     pub cited: Vec<Origin>,
+    /// The extents that it measures tails from.
+    pub extents: Vec<Origin>,
 }
 
 /// The types that hold a part of lent bytes, in all crates; a method's `self` may be one of them.
@@ -118,6 +120,7 @@ impl File<'_> {
                     .iter()
                     .any(|word| self.origins.origin(word).name == OF_OPENED),
                 cited: self.cited(&promise),
+                extents: self.origins.extents(&promise),
             });
         }
     }

@@ -1,6 +1,6 @@
 //! Where the names of a file come from, and the definitions whose answers its texts speak of.
 
-use crate::words::{group, last, words};
+use crate::words::{behind_first, group, last, words};
 use std::collections::BTreeMap;
 use std::fmt;
 
@@ -8,7 +8,10 @@ use std::fmt;
 pub const OF_OPENED: &str = "ofOpened";
 
 /// What a promise says of a definition, which stands next: what its checks answer, and judging's verdict by them.
-const ANSWERS: [&str; 2] = ["answer", "verdictOf"];
+const ANSWERS: [&str; 2] = ["answer", VERDICT];
+
+/// Behind the definition stands the extent that the tail is measured from.
+const VERDICT: &str = "verdictOf";
 
 /// What makes a reading call of a definition: the definition stands next.
 const CALLS: [&str; 3] = ["plain", "handing", "filling"];
@@ -74,6 +77,16 @@ impl Origins {
         found.sort();
         found.dedup();
         found
+    }
+
+    /// The extents that these words measure tails from.
+    pub fn extents(&self, words: &[&str]) -> Vec<Origin> {
+        let places = 0..words.len();
+        let verdicts = places.filter(|&place| self.origin(words[place]).name == VERDICT);
+        let extents = verdicts.map(|place| behind_first(&words[place + 1..]));
+        extents
+            .filter_map(|extent| self.definition(extent))
+            .collect()
     }
 
     /// The definition that stands in front; a call of an opened file is the call behind it.

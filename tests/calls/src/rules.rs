@@ -16,6 +16,7 @@ struct Naming<'a> {
     function: &'a str,
     place: String,
     definition: Option<&'a Origin>,
+    extent: Option<&'a Origin>,
 }
 
 pub fn check(sources: &Sources) -> Report {
@@ -35,6 +36,7 @@ pub fn check(sources: &Sources) -> Report {
         function,
         place: NO_READING_CALLS.to_string(),
         definition: None,
+        extent: None,
     }));
     let functions = functions_lent_bytes(sources, &formats);
     check_functions(&functions, &namings, &mut report);
@@ -94,6 +96,7 @@ fn named<'a>(file: &str, constructor: &'a Constructor, report: &mut Report) -> V
             function,
             place: place.clone(),
             definition,
+            extent: constructor.extent.as_ref(),
         })
         .collect()
 }
@@ -144,18 +147,34 @@ fn check_definition(function: &Function, naming: &Naming, report: &mut Report) {
         };
         format!("{}: it {given}, but its ensures {promised}", function.name)
     });
-    let cited: Vec<String> = function.cited.iter().map(Origin::to_string).collect();
     report.check(function.cited == std::slice::from_ref(due), || {
-        let cited = if cited.is_empty() {
-            "no definition".to_string()
-        } else {
-            cited.join(" and ")
-        };
+        let cited = joined(&function.cited, "no definition");
         format!(
             "{}: its ensures cites {cited}, but {} is {due}",
             function.name, naming.place
         )
     });
+    check_extent(function, naming, report);
+}
+
+// Judging tells the tail, by its format's extent, and no other call does.
+fn check_extent(function: &Function, naming: &Naming, report: &mut Report) {
+    let due = Vec::from_iter(naming.extent.cloned());
+    report.check(function.extents == due, || {
+        let [told, due] = [&function.extents, &due].map(|them| joined(them, "no extent"));
+        format!(
+            "{}: its ensures tells the tail by {told}, but {} by {due}",
+            function.name, naming.place
+        )
+    });
+}
+
+fn joined(origins: &[Origin], none: &str) -> String {
+    let names: Vec<String> = origins.iter().map(Origin::to_string).collect();
+    match names.is_empty() {
+        true => none.to_string(),
+        false => names.join(" and "),
+    }
 }
 
 fn check_names(functions: &[Function], namings: &[Naming], report: &mut Report) {

@@ -33,7 +33,8 @@ pub fn run(report: &mut Report) {
     report.check(!nothing.failures.is_empty(), || {
         "self-check: no sources at all pass".to_string()
     });
-    for change in NEW_CALLS.iter().chain(&OTHER_DEFINITIONS).chain(&NAMES) {
+    let definitions = OTHER_DEFINITIONS.iter().chain(&TAILS);
+    for change in NEW_CALLS.iter().chain(definitions).chain(&NAMES) {
         check(report, &toy, change);
     }
 }
@@ -145,14 +146,14 @@ const OTHER_DEFINITIONS: [Change; 15] = [
     ),
     (
         JUDGE,
-        "verdictOf judging extentOf",
-        "verdictOf (lookingUp judging) extentOf",
+        "verdictOf judging toyExtent",
+        "verdictOf (lookingUp judging) toyExtent",
         &["toy::judge::judge: its ensures cites toy.lookingUp, but constructor judge in Toy.antt is toy.Judge.judging"],
     ),
     (
         JUDGE,
-        "Rattle.toy.specs.Judge.{judging, verdict, extentOf}",
-        "Rattle.other.specs.Judge.{judging, verdict, extentOf}",
+        "Rattle.toy.specs.Judge.{judging, verdict}",
+        "Rattle.other.specs.Judge.{judging, verdict}",
         &["toy::judge::judge: its ensures cites other.Judge.judging, but constructor judge in Toy.antt is toy.Judge.judging"],
     ),
     (
@@ -229,6 +230,49 @@ const OTHER_DEFINITIONS: [Change; 15] = [
     ),
 ];
 
+/// Tails that are told by another extent than the format's, by none, or by a call that is not judging.
+const TAILS: [Change; 6] = [
+    (
+        JUDGE,
+        "verdictOf judging toyExtent",
+        "verdictOf judging seeming",
+        &["toy::judge::judge: its ensures tells the tail by toy.seeming, but constructor judge in Toy.antt by toy.Judge.extentOf"],
+    ),
+    (
+        JUDGE,
+        "verdictOf judging toyExtent",
+        "verdictOf judging (λ x. 0)",
+        &["toy::judge::judge: its ensures tells the tail by toy.λ, but constructor judge in Toy.antt by toy.Judge.extentOf"],
+    ),
+    (
+        JUDGE,
+        "verdictOf judging toyExtent",
+        "answer judging",
+        &["toy::judge::judge: its ensures tells the tail by no extent, but constructor judge in Toy.antt by toy.Judge.extentOf"],
+    ),
+    (
+        CAPI,
+        "Rattle.toy.specs.Judge.{extentOf}",
+        "Rattle.other.specs.Judge.{extentOf}",
+        &["jt_toy_judge: its ensures tells the tail by other.Judge.extentOf, but constructor judge in Toy.antt by toy.Judge.extentOf"],
+    ),
+    (
+        CAPI,
+        "asItem (answer (lookingUp name) (now",
+        "asItem (verdictOf (lookingUp name) extentOf (now",
+        &["jt_toy_lookup: its ensures tells the tail by toy.Judge.extentOf, but constructor lookup in Toy.antt by no extent"],
+    ),
+    (
+        SPEC,
+        "; extent = extentOf }",
+        " }",
+        &[
+            "toy::judge::judge: its ensures tells the tail by toy.Judge.extentOf, but constructor judge in Toy.antt by no extent",
+            "jt_toy_judge: its ensures tells the tail by toy.Judge.extentOf, but constructor judge in Toy.antt by no extent",
+        ],
+    ),
+];
+
 /// Names that are not there, or too often, and constructors without names or without a definition.
 const NAMES: [Change; 12] = [
     (
@@ -292,6 +336,7 @@ const NAMES: [Change; 12] = [
         &[
             "toy_write::write::write: it is named more than once: constructor judge in Toy.antt, tests/calls/no-reading-calls.txt",
             "toy_write::write::write: its ensures cites toy_write.Write.writing, but constructor judge in Toy.antt is toy.Judge.judging",
+            "toy_write::write::write: its ensures tells the tail by no extent, but constructor judge in Toy.antt by toy.Judge.extentOf",
         ],
     ),
     (

@@ -10,6 +10,8 @@ pub struct Constructor {
     /// The functions that the comment lines before it name.
     pub functions: Vec<String>,
     pub definition: Definition,
+    /// Of judging alone: the extent in what it answers.
+    pub extent: Option<Origin>,
 }
 
 pub enum Definition {
@@ -47,6 +49,7 @@ pub fn constructors(text: &str, own: &str) -> Vec<Constructor> {
     let code = without_comments(text, COMMENT);
     let origins = Origins::of(&code, own);
     let givers = givers(&code, &blocks);
+    let judging = judging(&code, &origins);
     let mut found = Vec::new();
     for block in &blocks {
         let function = givers.iter().find(|function| function.over == block.name);
@@ -59,6 +62,9 @@ pub fn constructors(text: &str, own: &str) -> Vec<Constructor> {
                 name: name.clone(),
                 functions: functions.clone(),
                 definition: definition(name, &clauses, &origins, &givers),
+                extent: judging
+                    .clone()
+                    .and_then(|(judging, extent)| (judging == *name).then_some(extent)),
             });
         }
     }
@@ -146,6 +152,19 @@ fn givers(code: &str, blocks: &[Block]) -> Vec<Giver> {
         }
     }
     found
+}
+
+// The constructor that the format's record has as judging, and its extent.
+fn judging(code: &str, origins: &Origins) -> Option<(String, Origin)> {
+    let words = words(code);
+    let field = |name| {
+        let mut fields = words.windows(3);
+        fields.find_map(|three| (three[..2] == [name, "="]).then_some(three[2]))
+    };
+    Some((
+        field("judging")?.to_string(),
+        origins.origin(field("extent")?),
+    ))
 }
 
 fn definition(name: &str, clauses: &[String], origins: &Origins, givers: &[Giver]) -> Definition {

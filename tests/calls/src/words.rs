@@ -45,6 +45,15 @@ pub fn group<'a, 'b>(words: &'a [&'b str]) -> &'a [&'b str] {
     &words[words.len().min(1)..]
 }
 
+/// What stands behind the first word, or behind the first group.
+pub fn behind_first<'a, 'b>(words: &'a [&'b str]) -> &'a [&'b str] {
+    let length = match words.first() {
+        Some(&"(") => group(words).len() + 2,
+        _ => 1,
+    };
+    &words[length.min(words.len())..]
+}
+
 /// The last word, or the last group without its brackets.
 pub fn last<'a, 'b>(words: &'a [&'b str]) -> &'a [&'b str] {
     let mut depth = 0;
