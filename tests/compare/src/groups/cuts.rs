@@ -71,8 +71,7 @@ fn cut_file<F: Format>(group: &mut Group, file: &[u8], asked: &[F::Question]) {
         let cut = Cut {
             file,
             length,
-            has_extent: extent.map(|extent| length >= extent),
-            due_tail: length.saturating_sub(extent.unwrap_or(0)) as u64,
+            extent,
         };
         let verdicts = [F::library_verdict(&bytes), F::reader_verdict(&bytes)];
         let is_due = cut.is_due_of_judging(&verdicts[0], &judged);
@@ -89,30 +88,31 @@ fn cut_file<F: Format>(group: &mut Group, file: &[u8], asked: &[F::Question]) {
 struct Cut<'a> {
     file: &'a [u8],
     length: usize,
-    /// Whether it is as long as the extent, where the full file is whole.
-    has_extent: Option<bool>,
-    /// The bytes after the extent, where it is as long.
-    due_tail: u64,
+    /// Of the full file, where that is whole.
+    extent: Option<usize>,
 }
 
 impl Cut<'_> {
     // A cut answers as the full file or that it is cut short, from a whole file's extent on as the
     // full file.
     fn is_due<A: Answer>(&self, answer: &A, full: &A) -> bool {
-        answer == full || (self.has_extent != Some(true) && answer.is_cut_short())
+        let has_extent = self.extent.is_some_and(|extent| self.length >= extent);
+        answer == full || (!has_extent && answer.is_cut_short())
     }
 
     // Judging must find the same extent in every longer cut, with what lies after it, and none below.
     fn is_due_of_judging(&self, verdict: &Verdict, full: &Verdict) -> bool {
-        let due = Verdict {
-            tail: self.due_tail,
-            ..*full
+        let Some(extent) = self.extent else {
+            return self.is_due(verdict, full);
         };
-        match self.has_extent {
-            Some(false) => *verdict == Verdict::refused(CUT_SHORT, verdict.entry),
-            Some(true) => *verdict == due,
-            None => self.is_due(verdict, full),
-        }
+        let due = match self.length.checked_sub(extent) {
+            Some(tail) => Verdict {
+                tail: tail as u64,
+                ..*full
+            },
+            None => Verdict::refused(CUT_SHORT, verdict.entry),
+        };
+        *verdict == due
     }
 
     fn check<A: Answer>(

@@ -1,6 +1,6 @@
 //! Whole files with bytes behind their end, in any format.
 
-use super::{compare_answers, compare_file, Judging};
+use super::compare_file;
 use crate::format::{Draft, Format, Question};
 use crate::random::Random;
 use crate::report::Group;
@@ -28,7 +28,10 @@ fn followed<F: Format>(group: &mut Group, draft: &F::Draft, behind: &[u8]) {
     let longer = [&file, behind].concat();
     let mut due = draft.verdict();
     due.tail += behind.len() as u64;
-    compare_answers(group, &longer, &Judging, [F::library_verdict(&longer), due]);
+    let judged = F::library_verdict(&longer);
+    group.check(judged == due, &longer, || {
+        format!("judged {judged:?}, built for {due:?}")
+    });
     compare_file::<F>(group, &longer, Some(draft));
     for question in F::questions(&file, Some(draft)) {
         let answers = [question.ask_library(&longer), question.ask_library(&file)];
