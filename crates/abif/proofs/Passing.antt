@@ -10,7 +10,7 @@ use borrow.Author.Tests.{le-leb, lt-leb, eq-eqb, ne_eqb, leb-false, eqb-true, le
 use Rattle.reading.specs.Choice.{pick}
 use Rattle.reading.specs.Number.{be}
 use Rattle.reading.specs.declared.check.Rule.TheVariants.{AtLeast}
-use Rattle.reading.specs.Check.{ok, refused, answer, holds, done, must, need, ◌>>=◌, ◌>>◌}
+use Rattle.reading.specs.Check.{ok, refused, answer, holds, done, must, need, ◌>>◌}
 use Rattle.reading.specs.Entries.{first_with, one_with}
 use Rattle.reading.proofs.Cut.{answer_plain}
 use Rattle.reading.proofs.Steps.{answer_bind, answer_must, answer_done, answer_need_present}

@@ -8,7 +8,7 @@ use lib.ListN.{length, take, length-take}
 use lib.Dec.{leb}
 use Rattle.reading.specs.Choice.{pick}
 use Rattle.reading.specs.declared.check.Rule.TheVariants.{AtLeast}
-use Rattle.reading.specs.Check.{Check, ok, answer, done, must, need, ◌>>=◌, ◌>>◌}
+use Rattle.reading.specs.Check.{Check, ok, answer, done, must, need, ◌>>◌}
 use Rattle.reading.proofs.Needed.{reach}
 use Rattle.reading.specs.Entries.{in_order}
 use Rattle.reading.proofs.Cut.{answer_same}

@@ -13,14 +13,14 @@ use reading::check::{Rule, Test, Tested, failed, signed_field, unsigned_field};
 use reading::number::{be16, be32};
 
 // What opening finds: the directory's place and count, or the refusal.
-#[derive(Drop)]
+#[derive(Clone, Copy)]
 pub enum Opened {
     At { place: u32, count: u32 },
     Refused(u8),
 }
 
 // The same, with the reason: the first test that fails, or the bytes that are missing, by their start and end.
-#[derive(Drop)]
+#[derive(Clone, Copy)]
 pub(crate) enum Header {
     At { place: u32, count: u32 },
     Failed(Test),

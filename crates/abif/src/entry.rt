@@ -10,7 +10,7 @@ use reading::check::{Ended, Field, Rule, Test, Tested, failed, signed_field, uns
 use reading::number::{be16, be32};
 
 // A directory entry with its place; a signed field as its unsigned number.
-#[derive(Drop)]
+#[derive(Clone, Copy)]
 pub struct Entry {
     pub place: usize,
     pub name: u32,
@@ -23,7 +23,7 @@ pub struct Entry {
 }
 
 // What an element type is: listed with its element size, raw bytes, or not handled.
-#[derive(Drop)]
+#[derive(Clone, Copy)]
 pub enum ElementType {
     Listed(u16),
     Raw,

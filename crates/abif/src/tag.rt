@@ -3,7 +3,7 @@ ghost use Rattle.std.specs.Prelude.{◌≡◌};
 ghost use Rattle.abif.specs.Tag.{tag_below};
 
 // A tag: a name, as the number of its four bytes, and a signed number.
-#[derive(Drop)]
+#[derive(Clone, Copy)]
 pub struct Tag {
     pub name: u32,
     pub number: i32,

@@ -26,7 +26,7 @@ pub(crate) fn width_of(code: u16) -> u16
 }
 
 // What an element is, or the refusal. A float comes with its bits.
-#[derive(Drop)]
+#[derive(Clone, Copy)]
 pub enum Element {
     Whole(i64),
     Single(f32, u32),

@@ -11,7 +11,7 @@ use reading::item::{Found, ItemData};
 use reading::part::part;
 
 // Where the text stands, or the refusal.
-#[derive(Drop)]
+#[derive(Clone, Copy)]
 pub enum Text {
     At { start: usize, length: usize },
     Refused(u8),

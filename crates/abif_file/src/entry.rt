@@ -9,7 +9,7 @@ use reading::number::{be16, be32, signed16, signed32};
 
 // A directory entry as it stands in the file, signed where the format is; C programs lend lists of these.
 #[repr(C)]
-#[derive(Drop)]
+#[derive(Clone, Copy)]
 pub struct RawEntry {
     pub name: u32,
     pub number: i32,
@@ -22,7 +22,7 @@ pub struct RawEntry {
 }
 
 // An entry of the directory, or the refusal.
-#[derive(Drop)]
+#[derive(Clone, Copy)]
 pub enum EntryFound {
     At(RawEntry),
     Refused(u8),

@@ -25,7 +25,7 @@ use reading::bulk::Copied;
 use reading::item::Found;
 
 // An opened file.
-#[derive(Drop)]
+#[derive(Clone, Copy)]
 pub struct AbifFile<'a> {
     pub bytes: &'a [u8],
     pub place: u64,
@@ -33,7 +33,7 @@ pub struct AbifFile<'a> {
 }
 
 // A directory's place and count.
-#[derive(Drop)]
+#[derive(Clone, Copy)]
 struct Directory {
     place: u64,
     count: u64,

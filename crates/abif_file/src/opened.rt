@@ -23,7 +23,7 @@ use reading::item::Found;
 use reading::part::part;
 
 // The place and count are those that opening gives, or the refusal.
-#[derive(Drop)]
+#[derive(Clone, Copy)]
 pub(crate) enum Reopened {
     Same,
     Refused(u8),

@@ -22,7 +22,7 @@ const OTHER_TYPE: u8 = 2;
 const NOT_IN_PROFILE: u8 = 3;
 
 // A step of the report: how far the entries and the rows have gone by, and what is found of a tag.
-#[derive(Drop)]
+#[derive(Clone, Copy)]
 struct Step {
     entries: usize,
     rows: usize,

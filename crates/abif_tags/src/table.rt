@@ -7,7 +7,7 @@ ghost use Rattle.abif_tags.specs.Private.{packed_table, published_of, presence_o
 use abif::tag::{Tag, tag_below};
 
 // A published type: a single value or text, by its code; an array, by the code of its elements; char[4]; or any user type.
-#[derive(Drop)]
+#[derive(Clone, Copy)]
 pub(crate) enum Published {
     Of(u16),
     Array(u16),
@@ -16,7 +16,7 @@ pub(crate) enum Published {
 }
 
 // Whether a profile has a row.
-#[derive(Drop)]
+#[derive(Clone, Copy)]
 pub(crate) enum Presence {
     Absent,
     Required,
@@ -24,7 +24,7 @@ pub(crate) enum Presence {
 }
 
 // A row of the table as it stands in a profile: its first tag, whether it is numbered 1-N, its type, and whether it is there.
-#[derive(Drop)]
+#[derive(Clone, Copy)]
 pub(crate) struct Row {
     pub first: Tag,
     pub many: bool,

@@ -11,7 +11,7 @@ use abif::entry::{ElementType, type_of};
 use reading::number::bits16;
 
 // An item: its tag, its type by its 16 bits, its count, and its part of the data.
-#[derive(Drop)]
+#[derive(Clone, Copy)]
 pub(crate) struct Item {
     pub name: u32,
     pub number: i32,
@@ -22,7 +22,7 @@ pub(crate) struct Item {
 }
 
 // What a group of checks finds: all passed, or the refusal.
-#[derive(Drop)]
+#[derive(Clone, Copy)]
 pub(crate) enum Passing {
     Pass,
     Fail(u8),

@@ -10,7 +10,7 @@ use writing::answer;
 
 // What judging finds; `unjudged` counts a GTC file's entries that are not judged, and `tail` the bytes after the extent.
 #[repr(C)]
-#[derive(Drop)]
+#[derive(Clone, Copy)]
 pub struct Verdict {
     pub refusal: u64,
     pub entry: u64,
@@ -21,7 +21,7 @@ pub struct Verdict {
 
 // An ABIF file's directory.
 #[repr(C)]
-#[derive(Drop)]
+#[derive(Clone, Copy)]
 pub struct Opened {
     pub refusal: u64,
     pub place: u64,
@@ -30,7 +30,7 @@ pub struct Opened {
 
 // An item: its type's code, which C calls `type` (in a GTC file its id), its number of elements, and where its data stand.
 #[repr(C)]
-#[derive(Drop)]
+#[derive(Clone, Copy)]
 pub struct Item {
     pub refusal: u64,
     pub code: u64,
@@ -41,7 +41,7 @@ pub struct Item {
 
 // An element of an ABIF item; `kind` tells which fields hold it.
 #[repr(C)]
-#[derive(Drop)]
+#[derive(Clone, Copy)]
 pub struct Element {
     pub refusal: u64,
     pub kind: u64,
@@ -58,7 +58,7 @@ pub struct Element {
 
 // Where a part of the caller's bytes stands.
 #[repr(C)]
-#[derive(Drop)]
+#[derive(Clone, Copy)]
 pub struct Part {
     pub refusal: u64,
     pub start: u64,
@@ -67,7 +67,7 @@ pub struct Part {
 
 // How many of something were put into the lent output.
 #[repr(C)]
-#[derive(Drop)]
+#[derive(Clone, Copy)]
 pub struct Listed {
     pub refusal: u64,
     pub count: u64,
@@ -75,7 +75,7 @@ pub struct Listed {
 
 // The common header of an SFF file; the flow letters and the key are told by where they start.
 #[repr(C)]
-#[derive(Drop)]
+#[derive(Clone, Copy)]
 pub struct SffHeader {
     pub refusal: u64,
     pub index_offset: u64,
@@ -90,7 +90,7 @@ pub struct SffHeader {
 
 // A read of an SFF file; base positions count from one.
 #[repr(C)]
-#[derive(Drop)]
+#[derive(Clone, Copy)]
 pub struct SffRead {
     pub refusal: u64,
     pub start: u64,
@@ -113,7 +113,7 @@ pub struct SffRead {
 
 // The position of a flow, from one.
 #[repr(C)]
-#[derive(Drop)]
+#[derive(Clone, Copy)]
 pub struct Flow {
     pub refusal: u64,
     pub flow: u64,
@@ -121,7 +121,7 @@ pub struct Flow {
 
 // The length of a file that was written.
 #[repr(C)]
-#[derive(Drop)]
+#[derive(Clone, Copy)]
 pub struct Written {
     pub refusal: u64,
     pub length: u64,
@@ -130,7 +130,7 @@ pub struct Written {
 // The state of an SFF file that is being written: the stated number of reads, how many of them are written, how many flows each has, and the
 // place behind what is written.
 #[repr(C)]
-#[derive(Drop)]
+#[derive(Clone, Copy)]
 pub struct SffWriter {
     pub refusal: u64,
     pub reads: u64,
@@ -142,7 +142,7 @@ pub struct SffWriter {
 // A SNP's record: the genotype's code, its number of letters and of those that are B, the letters of the base call, the score's bits, and the
 // intensities.
 #[repr(C)]
-#[derive(Drop)]
+#[derive(Clone, Copy)]
 pub struct Snp {
     pub refusal: u64,
     pub code: u64,
@@ -157,7 +157,7 @@ pub struct Snp {
 
 // A transformation of a GTC file, with where its 52 bytes stand, so that the bits of a NaN can be had; every field of it is 0 where it is refused.
 #[repr(C)]
-#[derive(Drop)]
+#[derive(Clone, Copy)]
 pub struct TransformationAnswer {
     pub refusal: u64,
     pub start: u64,

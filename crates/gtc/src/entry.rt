@@ -11,7 +11,7 @@ use reading::check::{Field, Test, failing, signed_field, unsigned_field};
 use reading::number::{le16, le32};
 
 // An entry with its place; the signed offset as its unsigned number.
-#[derive(Drop)]
+#[derive(Clone, Copy)]
 pub(crate) struct Entry {
     pub place: usize,
     pub id: u16,
@@ -19,7 +19,7 @@ pub(crate) struct Entry {
 }
 
 // The entry with an id, or the test that fails.
-#[derive(Drop)]
+#[derive(Clone, Copy)]
 pub(crate) enum EntryFound {
     At(Entry),
     Failed(Test),

@@ -33,7 +33,7 @@ pub const GENOTYPE_SCORES_ID: u16 = 1004;
 
 // What stands at an item's offset: a string, an array with the width of its elements, an array with one element for each SNP, the scanner
 // data, or a block of so many bytes.
-#[derive(Drop)]
+#[derive(Clone, Copy)]
 pub(crate) enum Shape {
     Text,
     Array(u8),
@@ -43,21 +43,21 @@ pub(crate) enum Shape {
 }
 
 // How an id's data are stored: in the offset field itself, or at the offset.
-#[derive(Drop)]
+#[derive(Clone, Copy)]
 pub(crate) enum Stored {
     Value,
     Shaped(Shape),
 }
 
 // What Table 3 says of an id: how its data are stored, or nothing.
-#[derive(Drop)]
+#[derive(Clone, Copy)]
 pub(crate) enum Listing {
     Listed(Stored),
     Unlisted,
 }
 
 // What an entry's checks find: its data, the first test that fails, or the bytes that are missing.
-#[derive(Drop)]
+#[derive(Clone, Copy)]
 pub(crate) enum ItemRead {
     At(ItemData),
     Failed(Test),

@@ -27,7 +27,7 @@ const NEW_ID: u8 = 1;
 
 // What judging finds: the file is whole, with its extent, the number of entries that are not judged and how many bytes lie after the extent; or the
 // refusal and its entry.
-#[derive(Drop)]
+#[derive(Clone, Copy)]
 pub enum Verdict {
     Whole {
         extent: usize,

@@ -1,4 +1,5 @@
 // GTC: judging and lookup, of a file in lent bytes.
+#![tactic(auto)]
 pub mod entry;
 pub mod item;
 pub mod judge;

@@ -26,7 +26,7 @@ const ENTRY_SIZE: usize = 6;
 pub(crate) const NEGATIVE: u32 = 0x8000_0000;
 
 // A count; or the first test that fails, or the bytes that are missing, by their start and end.
-#[derive(Drop)]
+#[derive(Clone, Copy)]
 pub(crate) enum Counted {
     Count(u32),
     Failed(Test),

@@ -9,7 +9,7 @@ ghost use Rattle.gtc_records.specs.Answers.{answer_of_decoded};
 pub(crate) const LAST_CODE: u8 = 45;
 
 // A genotype: not called (NC), null, or so many letters of which so many are B, the others A.
-#[derive(Drop)]
+#[derive(Clone, Copy)]
 pub enum Genotype {
     NoCall,
     Null,
@@ -17,7 +17,7 @@ pub enum Genotype {
 }
 
 // What a code means, or the refusal.
-#[derive(Drop)]
+#[derive(Clone, Copy)]
 pub enum Decoded {
     Is(Genotype),
     Refused(u8),

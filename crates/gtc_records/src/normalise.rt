@@ -6,7 +6,7 @@ use crate::transformation::Transformation;
 
 // Normalised intensities.
 #[repr(C)]
-#[derive(Drop)]
+#[derive(Clone, Copy)]
 pub struct Point {
     pub x: f32,
     pub y: f32,

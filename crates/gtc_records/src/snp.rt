@@ -17,7 +17,7 @@ use reading::item::{Found, ItemData};
 use reading::number::{byte, le16, le32};
 
 // A SNP's record: the genotype's code and meaning, the two letters of the base call, the score with its bits, and the intensities.
-#[derive(Drop)]
+#[derive(Clone, Copy)]
 pub struct Snp {
     pub code: u8,
     pub genotype: Genotype,
@@ -30,28 +30,28 @@ pub struct Snp {
 }
 
 // A SNP's record, or the refusal.
-#[derive(Drop)]
+#[derive(Clone, Copy)]
 pub enum SnpRead {
     At(Snp),
     Refused(u8),
 }
 
 // The arrays of genotypes, base calls and scores, or the refusal.
-#[derive(Drop)]
+#[derive(Clone, Copy)]
 pub(crate) enum Calls {
     At(ItemData, ItemData, ItemData),
     Refused(u8),
 }
 
 // The arrays of X and Y intensities, or the refusal.
-#[derive(Drop)]
+#[derive(Clone, Copy)]
 pub(crate) enum Intensities {
     At(ItemData, ItemData),
     Refused(u8),
 }
 
 // The five arrays with one element for each SNP.
-#[derive(Drop)]
+#[derive(Clone, Copy)]
 pub(crate) struct SnpArrays {
     pub genotypes: ItemData,
     pub base_calls: ItemData,
@@ -61,7 +61,7 @@ pub(crate) struct SnpArrays {
 }
 
 // The five arrays, or the refusal.
-#[derive(Drop)]
+#[derive(Clone, Copy)]
 pub(crate) enum ArraysFound {
     At(SnpArrays),
     Refused(u8),

@@ -19,7 +19,7 @@ const TRANSFORMATION_SIZE: usize = 52;
 
 // A transformation, as the 52 bytes of the file hold it.
 #[repr(C)]
-#[derive(Drop)]
+#[derive(Clone, Copy)]
 pub struct Transformation {
     pub version: i32,
     pub offset_x: f32,
@@ -37,7 +37,7 @@ pub struct Transformation {
 }
 
 // A transformation with where it starts, or the refusal.
-#[derive(Drop)]
+#[derive(Clone, Copy)]
 pub enum TransformationRead {
     At { start: usize, value: Transformation },
     Refused(u8),

@@ -5,7 +5,7 @@ ghost use Rattle.inspect.specs.Input.{input_of};
 
 use reading::number::{be16, be32, byte};
 
-#[derive(Drop)]
+#[derive(Clone, Copy)]
 pub(crate) enum Input {
     TooLong,
     Unknown,

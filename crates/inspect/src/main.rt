@@ -1,4 +1,5 @@
 // Tells of the file on standard input, in lines on standard output.
+#![tactic(auto)]
 mod abif_lines;
 mod gtc_lines;
 mod input;

@@ -7,7 +7,6 @@ use native.Mathlib.Omega.{arith}
 use lib.Dec.{leb}
 use borrow.Author.Tests.{le-leb}
 use Rattle.reading.specs.declared.check.Explanation.{Explanation}
-use Rattle.reading.specs.declared.check.Explanation.TheVariants as Explanation
 use Rattle.reading.specs.Choice.{pick}
 use Rattle.reading.specs.Check.{Check, Need, Outcome, passed, failed, short, refused, answer_of_outcome, run, answer}
 use Rattle.reading.specs.Explain.{explanation_of}

@@ -3,7 +3,7 @@ ghost use Rattle.std.specs.Prelude.{◌≡◌, [], ◌∷◌};
 ghost use Rattle.reading.specs.Bulk.{placed};
 
 // How many items were written, or the refusal.
-#[derive(Drop)]
+#[derive(Clone, Copy)]
 pub enum Copied {
     Count(u64),
     Refused(u8),

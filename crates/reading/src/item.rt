@@ -2,7 +2,7 @@
 
 // An item's data: its type's code, in a GTC file its id; its count, which in a GTC file is an array's elements, else bytes; and where the data
 // stand.
-#[derive(Drop)]
+#[derive(Clone, Copy)]
 pub struct ItemData {
     pub code: u16,
     pub count: u32,
@@ -11,7 +11,7 @@ pub struct ItemData {
 }
 
 // What lookup finds, or the refusal.
-#[derive(Drop)]
+#[derive(Clone, Copy)]
 pub enum Found {
     Data(ItemData),
     Refused(u8),

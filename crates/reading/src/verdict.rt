@@ -7,7 +7,7 @@ use crate::check::Explanation;
 use crate::order::smaller;
 
 // What judging finds: the file is whole, with its extent and how many bytes lie after it; or the refusal and its entry or read.
-#[derive(Drop)]
+#[derive(Clone, Copy)]
 pub enum Verdict {
     Whole { extent: usize, tail: usize },
     Refused { number: u8, entry: usize },

@@ -11,7 +11,7 @@ use sff_fields::position::{BasePosition, FlowPosition};
 use sff_fields::record::ReadFound;
 
 // The position of a base's flow, or the refusal.
-#[derive(Drop)]
+#[derive(Clone, Copy)]
 pub enum Flow {
     At(FlowPosition),
     Refused(u8),

@@ -15,14 +15,14 @@ use sff_fields::header::{
 const INDEX_OFFSET_LOW: usize = 12;
 
 // The header, or the refusal.
-#[derive(Drop)]
+#[derive(Clone, Copy)]
 pub enum HeaderFound {
     At(Header),
     Refused(u8),
 }
 
 // The same, with the reason: the first test that fails, or the bytes that are missing, by their start and end.
-#[derive(Drop)]
+#[derive(Clone, Copy)]
 pub(crate) enum HeaderRead {
     At(Header),
     Failed(Test),

@@ -18,7 +18,7 @@ use sff_fields::header::Header;
 use sff_fields::record::{RECORD_WIDTH, put_record};
 
 // A sound read's place, with the boundary behind it.
-#[derive(Drop)]
+#[derive(Clone, Copy)]
 struct Sound {
     start: usize,
     behind: Boundary,

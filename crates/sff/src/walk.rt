@@ -9,21 +9,21 @@ use reading::check::{Ended, Test};
 use sff_fields::header::{Header, index_size};
 
 // A boundary between reads: its position, and whether the index has been met.
-#[derive(Drop)]
+#[derive(Clone, Copy)]
 pub(crate) struct Boundary {
     pub position: usize,
     pub met: bool,
 }
 
 // The boundary behind an index, if one starts there, or the bytes of it that are missing, by their start and end.
-#[derive(Drop)]
+#[derive(Clone, Copy)]
 pub(crate) enum Skipped {
     To(Boundary),
     Short(usize, usize),
 }
 
 // The next read's place, with the boundary behind it; or the test that fails, or the bytes that are missing, of the read or of the index.
-#[derive(Drop)]
+#[derive(Clone, Copy)]
 pub(crate) enum Step {
     Next(usize, Boundary),
     Failed(Test),
@@ -32,7 +32,7 @@ pub(crate) enum Step {
 }
 
 // The boundary behind the reads; or the same refusals, with the read, or 0 for the index.
-#[derive(Drop)]
+#[derive(Clone, Copy)]
 pub(crate) enum Walked {
     Behind(Boundary),
     Failed(Test, usize),
@@ -40,7 +40,7 @@ pub(crate) enum Walked {
 }
 
 // The boundary before a read, or the refusal.
-#[derive(Drop)]
+#[derive(Clone, Copy)]
 pub(crate) enum Reached {
     At(Boundary),
     Refused(u8),

@@ -42,7 +42,7 @@ const BOTH_OR_NEITHER: u8 = 1;
 pub const IS_MET: u8 = 2;
 
 // The fields of the common header; the flow letters start at 31, and the key behind them.
-#[derive(Drop)]
+#[derive(Clone, Copy)]
 pub struct Header {
     pub index_offset: u64,
     pub index_length: u32,

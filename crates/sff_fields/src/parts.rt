@@ -5,7 +5,7 @@ ghost use Rattle.sff_fields.specs.Parts.{span_of};
 use crate::position::BasePosition;
 
 // All that is answered of a read: its header's fields, where its parts start, and the first and last base of its insert.
-#[derive(Drop)]
+#[derive(Clone, Copy)]
 pub struct Read {
     pub start: usize,
     pub name_start: usize,
@@ -27,7 +27,7 @@ pub struct Read {
 }
 
 // The parts of a read that are handed back.
-#[derive(Drop)]
+#[derive(Clone, Copy)]
 pub enum ReadPart {
     Name,
     Flows,
@@ -38,7 +38,7 @@ pub enum ReadPart {
 }
 
 // Where a part of the bytes stands.
-#[derive(Drop)]
+#[derive(Clone, Copy)]
 pub struct Place {
     pub start: usize,
     pub size: usize,

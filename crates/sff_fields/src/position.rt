@@ -1,6 +1,6 @@
 // Positions in a read, both from one: a base's place among the bases, and a flow's among the flows.
-#[derive(Drop)]
+#[derive(Clone, Copy)]
 pub struct BasePosition(pub u64);
 
-#[derive(Drop)]
+#[derive(Clone, Copy)]
 pub struct FlowPosition(pub u64);

@@ -11,7 +11,7 @@ use reading::check::{Field, Rule, Tested, failed, unsigned_field};
 pub const READ_FRONT_LENGTH: usize = 16;
 
 // The fields of a read's header, and where the read starts.
-#[derive(Drop)]
+#[derive(Clone, Copy)]
 pub struct ReadHeader {
     pub start: usize,
     pub header_length: u16,

@@ -13,7 +13,7 @@ use reading::bulk::put_four;
 pub const RECORD_WIDTH: usize = 17;
 
 // The read, or the refusal.
-#[derive(Drop)]
+#[derive(Clone, Copy)]
 pub enum ReadFound {
     At(Read),
     Refused(u8),

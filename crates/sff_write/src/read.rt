@@ -13,7 +13,7 @@ use writing::bytes::{copy, put_zeros};
 use writing::number::{put_words, put16, put32};
 
 // The clips of a read, from one; 0 for none.
-#[derive(Drop)]
+#[derive(Clone, Copy)]
 pub struct Clips {
     pub quality_left: u64,
     pub quality_right: u64,

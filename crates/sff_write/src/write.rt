@@ -16,7 +16,7 @@ use writing::answer::Written;
 
 // The state of a file that is being written: the stated number of reads, how many of them are written, how many flows each has, and the place
 // behind what is written.
-#[derive(Drop)]
+#[derive(Clone, Copy)]
 pub struct Writer {
     pub reads: u64,
     pub written: u64,
@@ -25,7 +25,7 @@ pub struct Writer {
 }
 
 // The state behind what was written, or the refusal.
-#[derive(Drop)]
+#[derive(Clone, Copy)]
 pub enum Advanced {
     To(Writer),
     Refused(u8),

@@ -1,5 +1,6 @@
 // Runs the calls that no C function reaches, on the GTC file on standard input: the parts that an id or a transformation's number hands back,
 // found and refused, and what genotype codes mean.
+#![tactic(auto)]
 use gtc::lookup::data_part;
 use gtc_records::genotype::{Decoded, Genotype, genotype_of};
 use gtc_records::transformation::transformation_part;

@@ -1,5 +1,6 @@
 // Runs the calls of an opened file, none of which a C function reaches, on the ABIF file on standard input: with the place and count that opening
 // gives, with others, and on a file that is cut short.
+#![tactic(auto)]
 use abif_elements::element::Element;
 use abif_elements::text::Text;
 use abif_file::file;
@@ -9,7 +10,7 @@ use reading::item::Found;
 use reading::part::part;
 
 // A directory's place and count.
-#[derive(Drop)]
+#[derive(Clone, Copy)]
 struct Directory {
     place: u64,
     count: u64,

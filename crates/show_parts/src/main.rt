@@ -1,5 +1,6 @@
 // Runs the calls that no C function reaches, on the ABIF file on standard input: the parts that lookup and the text call hand back, found and
 // refused, and raw entries by their number.
+#![tactic(auto)]
 use abif::lookup::data_part;
 use abif_elements::text::text_part;
 use abif_file::entry::{EntryFound, entry};

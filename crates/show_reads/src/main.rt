@@ -1,4 +1,5 @@
 // Runs the calls that no C function reaches, on the SFF file on standard input: the parts of a read that are handed back, found and refused.
+#![tactic(auto)]
 use libc::{STDIN_FILENO, STDOUT_FILENO};
 use sff::lookup::read_part;
 use sff_fields::parts::ReadPart;

@@ -1,0 +1,12 @@
+use mathlib.Core.Path.{sym}
+use native.Mathlib.Omega.{arith}
+use lib.Ieee.{binary64, of_bits, div}
+use Rattle.reading.proofs.Floats.{of_nan, no_nan}
+use Rattle.reading.proofs.float.double.Goals as goal
+
+pub float_from_bits-result : goal.float_from_bits-result
+float_from_bits-result c = no_nan binary64 c.args.bits (λ e. omega arith)
+
+pub returns : goal.returns
+unfolding div of_bits
+returns c = sym (of_nan binary64 c.args.bits (omega arith) (λ e. omega arith))
