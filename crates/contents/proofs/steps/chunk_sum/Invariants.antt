@@ -1,0 +1,16 @@
+use Prim.Native.Nat.{◌+◌, ◌*◌, ◌≤◌, ◌-◌}
+use mathlib.Core.Path.{sym, ◌∙◌}
+use native.Mathlib.Omega.{arith}
+use borrow.Author.Rules.{rules}
+use Rattle.reading.proofs.Loop.{Left, left_next, left_end}
+use Rattle.contents.specs.Steps.{step_sum}
+use Rattle.contents.proofs.steps.Laws.{sum_start, sum_on, sum_end}
+use Rattle.contents.proofs.steps.chunk_sum.Given as goal
+
+abbrev pub invariant-loop-i : goal.invariant-loop-i
+invariant-loop-i l =
+    (l.i ≤ l.n) × (l.sum ≤ 255 * l.i) × Left (λ m. l.sum + step_sum l.steps l.i m) l.n l.i (step_sum l.steps 0 l.n)
+
+abbrev pub decreases-loop-i : goal.decreases-loop-i
+decreases-loop-i l =
+    l.n - l.i

@@ -1,0 +1,16 @@
+use Prim.Native.Nat.{◌+◌, ◌-◌, ◌*◌, ◌≤◌}
+use mathlib.Core.Path.{◌≡◌}
+use native.Mathlib.Omega.{arith}
+use lib.ListN.{length-take, length-drop}
+use borrow.Author.Rules.{rules}
+use Rattle.contents.specs.Steps.{step_sum}
+use Rattle.contents.proofs.steps.Laws.{sum_begin, sum_chunk, sum_all}
+use Rattle.contents.proofs.steps.sum_up_to.Given as goal
+
+abbrev pub invariant-loop-at : goal.invariant-loop-at
+invariant-loop-at l =
+    (l.at ≤ l.n) × (l.sum ≤ l.most) × (l.sum + step_sum l.steps l.at (l.n - l.at) ≡ step_sum l.steps 0 l.n) × (l.sum ≤ 65536 * l.at)
+
+abbrev pub decreases-loop-at : goal.decreases-loop-at
+decreases-loop-at l =
+    l.n - l.at
