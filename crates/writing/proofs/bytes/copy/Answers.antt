@@ -1,0 +1,24 @@
+use Prim.Native.Nat.{◌≤◌, ◌-◌}
+use mathlib.Core.Path.{◌≡◌, refl}
+use native.Mathlib.Omega.{arith}
+use lib.ListN.{length, length-set}
+use lib.Seq.{paste, paste-zero}
+use Rattle.writing.proofs.Over.{put_none, copy_next, copy_end}
+use Rattle.writing.proofs.bytes.copy.Goals as goal
+
+pub returns-then-out-v : goal.returns-then-out-v
+returns-then-out-v c = put_none _ _ _ (omega arith)
+
+pub returns-then-out-v-2 : goal.returns-then-out-v-2
+returns-then-out-v-2 c = put_none _ _ _ (omega arith)
+
+pub loop-i-preserved : goal.loop-i-preserved
+loop-i-preserved c =
+    let l = c.loop-i in
+    let g = c.args in
+    (omega arith, copy_next g.out.now g.p g.v.now _ _ l.invariant.1 (omega arith) (omega arith), simp length-set l.invariant.2)
+
+pub returns : goal.returns
+returns c =
+    let g = c.args in
+    copy_end g.out.now g.p g.v.now _ c.loop-i.i c.loop-i.invariant.1 (omega arith) (omega arith) (omega arith)
