@@ -1,0 +1,16 @@
+use Prim.Native.Nat.{ℕ, ◌≤◌, ◌-◌}
+use mathlib.Core.Path.{ap}
+use native.Mathlib.Omega.{arith}
+use Rattle.reading.proofs.Loop.{Left, left_next, left_stop, left_end}
+use Rattle.reading.specs.Entries.{first_with}
+use Rattle.reading.proofs.Entries.{first_here, first_on}
+use Rattle.gtc.specs.Entry.{has_id}
+use Rattle.gtc.proofs.entry.first_id.Given as goal
+
+abbrev pub invariant-loop-i : goal.invariant-loop-i
+invariant-loop-i l =
+    (l.i ≤ l.n) × Left (λ m. first_with (has_id l.h l.id) m l.i) l.n l.i (first_with (has_id l.h l.id) (l.n - l.from) l.from)
+
+abbrev pub decreases-loop-i : goal.decreases-loop-i
+decreases-loop-i l =
+    l.n - l.i

@@ -1,0 +1,13 @@
+use borrow.Author.Rules.{rules}
+use Rattle.reading.specs.Check.{run}
+use Rattle.reading.proofs.Tests.{tests}
+use Rattle.gtc.specs.Item.{shape_check}
+use Rattle.gtc.proofs.item.block_tests.Goals as goal
+
+pub returns-then-s-e : goal.returns-then-s-e
+unfolding shape_check run
+returns-then-s-e c h n = search tests
+
+pub returns : goal.returns
+unfolding shape_check run
+returns c h n = search tests

@@ -1,0 +1,31 @@
+use borrow.Author.Rules.{rules}
+use mathlib.Core.Path.{sym, ◌∙◌, ap}
+use Rattle.reading.specs.Answers.{outcome_of_tested}
+use Rattle.reading.proofs.Passed.{bind_short, bind_failed, bind_passed}
+use Rattle.gtc.specs.Item.{shape_check}
+use Rattle.gtc.specs.Answers.{outcome_of_counted}
+use Rattle.gtc.proofs.item.snp_array_tests.Goals as goal
+
+pub returns-in-Failed-snp_tests : goal.returns-in-Failed-snp_tests
+unfolding shape_check
+returns-in-Failed-snp_tests c =
+    let s = c.args.s.now in
+    bind_failed _ _ s _ 0 (sym (c.snp_tests.ensures s) ∙ ap outcome_of_tested c.in-Failed-snp_tests.is) ∙ bind_passed _ _ s _ (sym c.array_count.ensures ∙ ap outcome_of_counted c.in-Count.is)
+
+pub returns-in-Short : goal.returns-in-Short
+unfolding shape_check
+returns-in-Short c =
+    let s = c.args.s.now in
+    bind_short _ _ s _ 0 (sym c.array_count.ensures ∙ ap outcome_of_counted c.in-Short.is)
+
+pub returns-in-Failed : goal.returns-in-Failed
+unfolding shape_check
+returns-in-Failed c =
+    let s = c.args.s.now in
+    bind_failed _ _ s _ 0 (sym c.array_count.ensures ∙ ap outcome_of_counted c.in-Failed.is)
+
+pub returns-in_default : goal.returns-in_default
+unfolding shape_check
+returns-in_default c =
+    let s = c.args.s.now in
+    c.elements_of.ensures ∙ bind_passed _ _ s _ (sym (c.snp_tests.ensures s) ∙ ap outcome_of_tested c.in_default.is) ∙ bind_passed _ _ s _ (sym c.array_count.ensures ∙ ap outcome_of_counted c.in-Count.is)

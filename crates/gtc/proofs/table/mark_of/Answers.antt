@@ -1,0 +1,6 @@
+use borrow.Author.Rules.{rules}
+use Rattle.gtc.proofs.table.Laws.{mark_bytes}
+use Rattle.gtc.proofs.table.mark_of.Goals as goal
+
+pub returns : goal.returns
+returns c = mark_bytes _ _ _ c.le16.ensures c.byte.ensures
