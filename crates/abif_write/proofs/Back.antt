@@ -21,7 +21,7 @@ use Rattle.abif_write.proofs.file.Laws.{length_outside}
 
 -- an entry whose numbers fit their fields
 pub record Fits (d : Entry) : Type 0 where
-  pub name_fits_lem : d.name < 0x100000000
+  pub name_fits : d.name < 0x100000000
   pub number_fits : d.number < 0x100000000
   pub type_fits : d.element_type < 0x10000
   pub width_fits : d.element_size < 0x10000
@@ -48,13 +48,13 @@ entry_back u r d pl f =
     let r2 = digits 2 d.element_type ++ r3 in
     let r1 = digits 4 d.number ++ r2 in
     let z : length u + 0 ≡ length u = omega arith in
-    let a = ap (λ (p : ℕ). be 4 (u ++ s) p) (sym z) ∙ be_field 4 d.name 0 u [] r1 s refl refl f.name-fits in
+    let a = ap (λ (p : ℕ). be 4 (u ++ s) p) (sym z) ∙ be_field 4 d.name 0 u [] r1 s refl refl f.name_fits in
     let b = be_field 4 d.number 4 u n1 r2 s refl refl f.number_fits in
-    let c = be_field 2 d.element_type 8 u n2 r3 s refl refl f.type-fits in
+    let c = be_field 2 d.element_type 8 u n2 r3 s refl refl f.type_fits in
     let e = be_field 2 d.element_size 10 u n3 r4 s refl refl f.width_fits in
     let g = be_field 4 d.element_count 12 u n4 r5 s refl refl f.count_fits in
     let h = be_field 4 d.data_size 16 u n5 r6 s refl refl f.size_fits in
-    let k = be_field 4 d.data_offset 20 u n6 r7 s refl refl f.offset-fits in
+    let k = be_field 4 d.data_offset 20 u n6 r7 s refl refl f.offset_fits in
     let l = sym pl in
     λ i. record { place = l i; name = a i; number = b i; element_type = c i; element_size = e i; element_count = g i; data_size = h i; data_offset = k i }
 

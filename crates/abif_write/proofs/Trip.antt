@@ -112,7 +112,7 @@ module _ (b : List ℕ) (d : Item) (p x : ℕ) where
   unfolding entry_for
   entry_fits a n k s w h =
       record {
-        name_fits_lem = a;
+        name_fits = a;
         number_fits = bits_fit 4 d.number (omega arith) n;
         type_fits = k;
         width_fits = omega (arith, size_small d.element_type);
@@ -152,7 +152,7 @@ module _ (n p : ℕ) (few : n ≤ 999) (least : 128 ≤ p) (short : p + 28 * n �
   unfolding header_bytes digits entry_bytes tag_bytes data_bytes tdir
   header_entry =
       entry_back (digits 4 0x41424946 ++ digits 2 101) (replicate 94 0) (tdir n p) refl
-      (record { name_fits_lem = omega arith; number_fits = omega arith; type_fits = omega arith; width_fits = omega arith; count_fits = omega arith; size_fits = omega arith; offset_fits = omega arith })
+      (record { name_fits = omega arith; number_fits = omega arith; type_fits = omega arith; width_fits = omega arith; count_fits = omega arith; size_fits = omega arith; offset_fits = omega arith })
 
   header_mark : be 4 (header_bytes n p) 0 ≡ 0x41424946
   unfolding be header_bytes digits

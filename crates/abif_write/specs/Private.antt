@@ -22,5 +22,5 @@ pub record Sound (buffer : List ℕ) (item : Item) : Type 0 where
 
 -- every item has passed its checks
 pub record Accepted (r : Records) (buffer : List ℕ) : Type 0 where
-  pub same_lengths_lem : SameLengths r
+  pub same_lengths : SameLengths r
   pub sound : (k : ℕ) → k < length r.names → Sound buffer (item_at r k)

@@ -11,7 +11,7 @@ use Rattle.promises.specs.AbifWritten.{ItemsFitTypes, HoldsItems, AbifReadsBack}
 
 lent_fits : (r : Records) (b : List ℕ) → ItemsFitTypes r b → Lent (item_at r) b
 unfolding item_at
-lent_fits r b f = record { names = f.of-names; numbers = f.of-numbers; types = λ k. bits_fit 2 _ (omega arith) (f.of_types k); bytes = f.of-bytes }
+lent_fits r b f = record { names = f.of_names; numbers = f.of_numbers; types = λ k. bits_fit 2 _ (omega arith) (f.of_types k); bytes = f.of_bytes }
 
 pub abif_reads_back : AbifReadsBack
 abif_reads_back r b room file f h =
@@ -24,6 +24,6 @@ abif_reads_back r b room file f h =
       whole = trip_whole g b n l m.checked m.few m.short;
       opens = trip_opens g b n l m.checked m.few m.short;
       each = λ k i. let t = trip_kept g b n l m.checked m.few m.short k i in
-          record { found = t.found; answers = t.answers; same_type = t.of-type; same_count = t.of-count; same_bytes = t.of-bytes };
+          record { found = t.found; answers = t.answers; same_type = t.of_type; same_count = t.of_count; same_bytes = t.of_bytes };
       only = trip_only g b n l m.checked m.few m.short;
     })

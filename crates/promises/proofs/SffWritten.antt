@@ -85,9 +85,9 @@ module _ (u t : List ℕ) (f k : ℕ) (r : GivenRead) (fit : Fitting f r) (clips
         read = read_of f d;
         found = h ∙ read_from_passes f (length u) file _ d (present_back u t f r fit) (clips_any d file [] ∙ clips) steps_there;
         name = name_back u t f r fit;
-        flows = sym fit.flows-agree;
+        flows = sym fit.flows_agree;
         flow = λ i q.
-            let e = fit.flows-agree in
+            let e = fit.flows_agree in
             let p = data_start d in
             sym (be_in_part 2 p (2 * f) (2 * i) file (omega arith)) ∙ ap (λ (x : List ℕ). be 2 x (2 * i)) (flows_back u t f r fit) ∙ word_back r.flows i (length r.flows) 0 q (small (0 + i)) ∙ ap (λ (j : ℕ). get_or r.flows j 0) (zero-add i);
         bases = refl;

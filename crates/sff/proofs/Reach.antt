@@ -126,11 +126,11 @@ module _ (s : List ℕ) (x : ℕ) (k : Whole s x) where
   parts n a b =
       let q : d.reads ≡ n - 1 + left_from d.reads n = omega arith in
       let g = walk_split d s (n - 1) (left_from d.reads n) 0 (first_boundary d) k.reads (subst (λ (m : ℕ). answer (walk d m 0 (first_boundary d)) s ≡ ok k.reads) q k.reads_ok) in
-      let u = walk_reach d s (n - 1) 0 (first_boundary d) g.first (g.first-ok 0) in
+      let u = walk_reach d s (n - 1) 0 (first_boundary d) g.first (g.first_ok 0) in
       let v = walk_reach d s (left_from d.reads n) 0 g.first.behind g.rest (g.rest_ok 0) in
       let z : k.reads.behind.position ≡ g.rest.behind.position = ap (λ (y : Boundary). y.position) g.behind in
       let e = k.extends in
-      record { before = g.first; before_ok = g.first-ok 0; low = omega (arith, u, v, z, e); rest = g.rest; rest_ok = g.rest_ok; within = omega (arith, z, e) }
+      record { before = g.first; before_ok = g.first_ok 0; low = omega (arith, u, v, z, e); rest = g.rest; rest_ok = g.rest_ok; within = omega (arith, z, e) }
 
   before_under : (n : ℕ) → reach (before_read d n) s ≤ x
   unfolding before_read walk_past holds
@@ -145,7 +145,7 @@ module _ (s : List ℕ) (x : ℕ) (k : Whole s x) where
   before_same n b e =
       let g = before_walked d n s b e in
       let p = parts n g.0 g.1 in
-      (p, ok_inj (sym (before_is d n s p.before g.0 g.1 p.before-ok) ∙ e))
+      (p, ok_inj (sym (before_is d n s p.before g.0 g.1 p.before_ok) ∙ e))
 
   -- read j of those from number n on ends within the extent
   nth_within : (n : ℕ) (p : Parts n) (j : ℕ) → j < left_from d.reads n → (q : Nth d s j p.before.behind p.rest) × (q.read.behind.position ≤ x)
@@ -160,26 +160,26 @@ module _ (s : List ℕ) (x : ℕ) (k : Whole s x) where
       let g = before_walked d n s b e in
       let p = before_same n b e in
       let q = nth_within n p.0 0 (omega arith) in
-      let y : q.0.before.behind ≡ b = ap (λ (z : Passage). z.behind) (ok_inj (sym (q.0.before-ok 0) ∙ walk_none d 0 p.0.before.behind s)) ∙ p.1 in
+      let y : q.0.before.behind ≡ b = ap (λ (z : Passage). z.behind) (ok_inj (sym (q.0.before_ok 0) ∙ walk_none d 0 p.0.before.behind s)) ∙ p.1 in
       let o = next_ok d 0 b s q.0.read (subst (λ (z : Boundary). answer (next_read d 0 z) s ≡ ok q.0.read) y (q.0.read_ok 0)) in
-      let r = skip_reach d b o.skipped s o.skip-ok in
-      let f = from_under x d.flows q.0.read.start s _ o.framing-ok q.1 in
-      let m = (framing_reach d.flows q.0.read.start s _ o.framing-ok).1 in
+      let r = skip_reach d b o.skipped s o.skip_ok in
+      let f = from_under x d.flows q.0.read.start s _ o.framing_ok q.1 in
+      let m = (framing_reach d.flows q.0.read.start s _ o.framing_ok).1 in
       let t = o.start in
       reach_under x _ _ s (omega (arith, r, m, t, q.1)) (λ c i.
-      subst (λ (z : Boundary). reach (read_from d.flows z.position) s ≤ x) (ok_inj (sym o.skip-ok ∙ i)) (subst (λ (z : ℕ). reach (read_from d.flows z) s ≤ x) (sym o.start) f)))
+      subst (λ (z : Boundary). reach (read_from d.flows z.position) s ≤ x) (ok_inj (sym o.skip_ok ∙ i)) (subst (λ (z : ℕ). reach (read_from d.flows z) s ≤ x) (sym o.start) f)))
 
   reads_from_under : (n i : ℕ) → i + n ≤ d.reads → reach (reads_from d n i) s ≤ x
   unfolding reads_from
   reads_from_under n i h =
       let q : d.reads ≡ i + n + (d.reads - (i + n)) = omega arith in
       let g = walk_split d s (i + n) (d.reads - (i + n)) 0 (first_boundary d) k.reads (subst (λ (m : ℕ). answer (walk d m 0 (first_boundary d)) s ≡ ok k.reads) q k.reads_ok) in
-      let u = walk_reach d s (i + n) 0 (first_boundary d) g.first (g.first-ok 0) in
+      let u = walk_reach d s (i + n) 0 (first_boundary d) g.first (g.first_ok 0) in
       let v = walk_reach d s (d.reads - (i + n)) 0 g.first.behind g.rest (g.rest_ok 0) in
       let z : k.reads.behind.position ≡ g.rest.behind.position = ap (λ (y : Boundary). y.position) g.behind in
       let e = k.extends in
       reach_under x _ _ s (rw (reach_at 0 (walk d (i + n) 0 (first_boundary d)) s) (omega (arith, u, v, z, e))) (λ w o.
-      let t : g.first ≡ w = ok_inj (sym (g.first-ok 0) ∙ at_ok 0 _ s w o) in
+      let t : g.first ≡ w = ok_inj (sym (g.first_ok 0) ∙ at_ok 0 _ s w o) in
       let p : w.behind.position ≤ x = subst (λ (y : Passage). y.behind.position ≤ x) t (omega (arith, v, z, e)) in
       reach_under x _ _ s (reach_need_under x _ _ s p) (λ _ _. reach_done_under x _ s))
 

@@ -141,8 +141,8 @@ module _ (u t : List ℕ) (f : ℕ) (r : GivenRead) (fit : Fitting f r) where
   pub read_end_lem : read_end f (header_for (length u) r) ≡ length (u ++ read_bytes (header_for (length u) r) r)
   unfolding header_with
   read_end_lem =
-      let k = length_read (header_for (length u) r) r fit.steps-agree fit.qualities-agree in
-      let e : padded (2 * length r.flows + 3 * length r.letters) ≡ padded (2 * f + 3 * length r.letters) = ap (λ (m : ℕ). padded (2 * m + 3 * length r.letters)) fit.flows-agree in
+      let k = length_read (header_for (length u) r) r fit.steps_agree fit.qualities_agree in
+      let e : padded (2 * length r.flows + 3 * length r.letters) ≡ padded (2 * f + 3 * length r.letters) = ap (λ (m : ℕ). padded (2 * m + 3 * length r.letters)) fit.flows_agree in
       rw length-append (omega arith)
 
   zeros : List ℕ
@@ -162,9 +162,9 @@ module _ (u t : List ℕ) (f : ℕ) (r : GivenRead) (fit : Fitting f r) where
   unfolding header_with
   fields_read =
       let h = padded_bounds (16 + length r.name) in
-      let n = fit.name-fits in
+      let n = fit.name_fits in
       ap (λ (x : List ℕ). read_header_of (take (length u + 16) x) (length u)) begins_read
-      ∙ read_fields_back u (r.name ++ (zeros ++ (flows ++ (r.steps ++ (r.letters ++ (r.qualities ++ (last ++ t))))))) (header_for (length u) r) refl fit.name-fits (omega arith) fit.bases-fit fit.clips-fit.0 fit.clips-fit.1 fit.clips-fit.2 fit.clips-fit.3
+      ∙ read_fields_back u (r.name ++ (zeros ++ (flows ++ (r.steps ++ (r.letters ++ (r.qualities ++ (last ++ t))))))) (header_for (length u) r) refl fit.name_fits (omega arith) fit.bases_fit fit.clips_fit.0 fit.clips_fit.1 fit.clips_fit.2 fit.clips_fit.3
 
   pub present_back : answer (present_read f (length u)) (u ++ (read_bytes (header_for (length u) r) r ++ t)) ≡ ok (record { fields = header_for (length u) r; up_to = u ++ read_bytes (header_for (length u) r) r })
   unfolding header_with
@@ -175,7 +175,7 @@ module _ (u t : List ℕ) (f : ℕ) (r : GivenRead) (fit : Fitting f r) where
       let l : length s ≡ length m + length t = ap length e ∙ length-append m t in
       let k = read_end_lem in
       let b : length m ≡ length u + length (read_bytes (header_for (length u) r) r) = length-append u _ in
-      let c = length_read (header_for (length u) r) r fit.steps-agree fit.qualities-agree in
+      let c = length_read (header_for (length u) r) r fit.steps_agree fit.qualities_agree in
       let h = padded_bounds (16 + length r.name) in
       present_passes f (length u) s (header_for (length u) r) (omega arith) fields_read refl refl (omega arith)
       ∙ ap (λ (x : List ℕ). ok (record { fields = header_for (length u) r; up_to = x })) (ap (take (read_end f (header_for (length u) r))) e ∙ take_at m t _ (sym k))
@@ -194,7 +194,7 @@ module _ (u t : List ℕ) (f : ℕ) (r : GivenRead) (fit : Fitting f r) where
   unfolding flows zeros padded
   flows_back =
       part_at file (named ++ (r.name ++ zeros)) flows (r.steps ++ (r.letters ++ (r.qualities ++ (last ++ t)))) (length u + padded (16 + length r.name)) (2 * f) (begins_read ∙ simp append_assoc)
-      (simp (length-append, length_lengths, length_clips, length-replicate) (omega arith)) (length_words r.flows (length r.flows) 0 ∙ ap (λ (m : ℕ). 2 * m) fit.flows-agree)
+      (simp (length-append, length_lengths, length_clips, length-replicate) (omega arith)) (length_words r.flows (length r.flows) 0 ∙ ap (λ (m : ℕ). 2 * m) fit.flows_agree)
 
   -- where the flow steps start
   abbrev steps_start_lem : ℕ
@@ -206,19 +206,19 @@ module _ (u t : List ℕ) (f : ℕ) (r : GivenRead) (fit : Fitting f r) where
   length_before : length before_steps ≡ steps_start_lem
   unfolding before_steps flows zeros padded
   length_before =
-      let e : 2 * length r.flows ≡ 2 * f = ap (λ (m : ℕ). 2 * m) fit.flows-agree in
+      let e : 2 * length r.flows ≡ 2 * f = ap (λ (m : ℕ). 2 * m) fit.flows_agree in
       simp (length-append, length_lengths, length_clips, length-replicate, length_words) (omega arith)
 
   pub steps_back : take (length r.letters) (drop steps_start_lem file) ≡ r.steps
   unfolding before_steps
-  steps_back = part_at file before_steps r.steps (r.letters ++ (r.qualities ++ (last ++ t))) steps_start_lem _ (begins_read ∙ simp append_assoc) length_before fit.steps-agree
+  steps_back = part_at file before_steps r.steps (r.letters ++ (r.qualities ++ (last ++ t))) steps_start_lem _ (begins_read ∙ simp append_assoc) length_before fit.steps_agree
 
   letters_follow : file ≡ (before_steps ++ r.steps) ++ (r.letters ++ (r.qualities ++ (last ++ t)))
   unfolding before_steps
   letters_follow = begins_read ∙ simp append_assoc
 
   length_letters : length (before_steps ++ r.steps) ≡ steps_start_lem + length r.letters
-  length_letters = length-append before_steps r.steps ∙ omega (arith, length_before, fit.steps-agree)
+  length_letters = length-append before_steps r.steps ∙ omega (arith, length_before, fit.steps_agree)
 
   pub letters_back : take (length r.letters) (drop (steps_start_lem + length r.letters) file) ≡ r.letters
   letters_back = part_at file (before_steps ++ r.steps) r.letters _ _ _ letters_follow length_letters refl
@@ -226,7 +226,7 @@ module _ (u t : List ℕ) (f : ℕ) (r : GivenRead) (fit : Fitting f r) where
   pub qualities_back : take (length r.letters) (drop (steps_start_lem + length r.letters + length r.letters) file) ≡ r.qualities
   qualities_back =
       part_at file ((before_steps ++ r.steps) ++ r.letters) r.qualities (last ++ t) _ _ (letters_follow ∙ simp append_assoc)
-      (length-append (before_steps ++ r.steps) r.letters ∙ ap (λ (m : ℕ). m + length r.letters) length_letters) fit.qualities-agree
+      (length-append (before_steps ++ r.steps) r.letters ∙ ap (λ (m : ℕ). m + length r.letters) length_letters) fit.qualities_agree
 
   -- a part of the letters
   pub among_letters : (i n : ℕ) → i + n ≤ length r.letters → take n (drop (steps_start_lem + length r.letters + i) file) ≡ take n (drop i r.letters)

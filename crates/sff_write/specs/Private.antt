@@ -9,10 +9,10 @@ FittingClips clips = (clips.quality_left ≤ 65535) × (clips.quality_right ≤ 
 
 -- the lengths of a read fit their fields and agree, in a file of so many flows
 pub record Fitting (flows : ℕ) (read : GivenRead) : Type 0 where
-  pub name_fits_lem : read_header_size (length read.name) ≤ 65535
+  pub name_fits : read_header_size (length read.name) ≤ 65535
   pub flows_fit : flows ≤ 65535
   pub flows_agree : length read.flows ≡ flows
   pub steps_agree : length read.steps ≡ length read.letters
   pub qualities_agree : length read.qualities ≡ length read.letters
   pub bases_fit : length read.letters ≤ 0xffffffff
-  pub clips_fit_lem : FittingClips read.clips
+  pub clips_fit : FittingClips read.clips

@@ -110,9 +110,9 @@ names_rise name a b h l e =
 fits_name : TableRow → Bool
 fits_name r = ltb r.first.name 0x100000000
 
-pub name_fits_lem : (k : ℕ) → (get_or table k no_row).first.name < 0x100000000
+pub name_fits : (k : ℕ) → (get_or table k no_row).first.name < 0x100000000
 unfolding table fits_name
-name_fits_lem k = ltb-true (get_or table k no_row).first.name 0x100000000 (every_at fits_name table refl no_row refl k)
+name_fits k = ltb-true (get_or table k no_row).first.name 0x100000000 (every_at fits_name table refl no_row refl k)
 
 pub name_decoded : (k : ℕ) → get_or packed_table k 0 / 0x100000000 ≡ (get_or table k no_row).first.name
 unfolding row_at unpacked row_in

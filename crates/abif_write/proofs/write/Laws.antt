@@ -73,7 +73,7 @@ module _ (names : List ℕ) (numbers types : List ℤ) (counts starts lengths b 
     pub accepted : r ≡ Pass → Accepted (records names numbers types counts starts lengths) b
     accepted q =
         record {
-          same_lengths_lem = lengths_same names numbers types counts starts lengths (sym et ∙ f);
+          same_lengths = lengths_same names numbers types counts starts lengths (sym et ∙ f);
           sound = λ k l. (items_sound (item_at (records names numbers types counts starts lengths)) b (length names) 0 tt (sym er ∙ ap answer_of_passing q) k (omega arith) (omega arith)).0;
         }
 

@@ -174,7 +174,7 @@ module _ (d : Header) (s : List ℕ) where
       let y : e.0.behind.position ≡ w.behind.position = ap (λ (x : Passage). x.behind.position) z in
       let k = next_ok d i b s a.0 a.1 in
       let r = walk_reach d s n (i + 1) a.0.behind e.0 e.1 in
-      let g = answer_same (read_from d.flows a.0.start) m s (from_under m d.flows a.0.start s _ k.framing-ok (omega arith)) in
+      let g = answer_same (read_from d.flows a.0.start) m s (from_under m d.flows a.0.start s _ k.framing_ok (omega arith)) in
       let t = reads_within n (i + 1) m a.0.behind e.0 e.1 (omega arith) in
       subst (λ (x : Passage). reads_at d.flows (take m s) x.starts ≡ reads_at d.flows s x.starts) z (λ j. g j ∷ t j)
 
@@ -202,11 +202,11 @@ halves d s m n b c l w h e v k =
       one = w;
       one_ok = h;
       other = g.first;
-      other_ok = g.first-ok 0;
+      other_ok = g.first_ok 0;
       rest = g.rest;
       rest_ok = g.rest_ok 0;
       all = λ u r. ap (λ (z : Passage). z.starts) (same_passage u _ _ r j) ∙ ap (λ (z : List ℕ). w.starts ++ z) g.starts;
-      within = λ r. walk_within d s m 0 c r g.first (g.first-ok 0);
+      within = λ r. walk_within d s m 0 c r g.first (g.first_ok 0);
     }
 
 -- the records of reads one behind the other
@@ -237,7 +237,7 @@ module _ (d : Header) (s : List ℕ) (m n : ℕ) (b c : Boundary) (a : Halves d 
   pub halves_written : x ≡ recorded d s a.one ++ (recorded d s a.other ++ drop (17 * m + 17 * m) o) → y ≡ recorded d s a.rest ++ drop (17 * (n - m - m)) (take (length x - (17 * m + 17 * m)) (drop (17 * m + 17 * m) x)) → (w : Passage) → answer (walk d n 0 b) s ≡ ok w → take (17 * m + 17 * m) x ++ (y ++ drop (length x - (17 * m + 17 * m)) (drop (17 * m + 17 * m) x)) ≡ recorded d s w ++ drop (17 * n) o
   halves_written f g w h =
       let p = recorded_length m b a.one a.one_ok in
-      let q = recorded_length m c a.other a.other-ok in
+      let q = recorded_length m c a.other a.other_ok in
       let e : length (recorded d s a.one ++ recorded d s a.other) ≡ 17 * m + 17 * m = length-append (recorded d s a.one) (recorded d s a.other) ∙ ap (λ (j : ℕ). j + length (recorded d s a.other)) p ∙ ap (λ (j : ℕ). 17 * m + j) q in
       let k : 17 * m + 17 * m + 17 * (n - m - m) ≡ 17 * n = omega arith in
       let z = written_behind (recorded d s a.one ++ recorded d s a.other) (recorded d s a.rest) o x y (17 * m + 17 * m) (17 * (n - m - m)) e (omega arith) (f ∙ sym (append_assoc (recorded d s a.one) (recorded d s a.other) (drop (17 * m + 17 * m) o))) g in

@@ -107,8 +107,8 @@ module _ (s : List ℕ) (first room : ℕ) (v : List (Answer Read)) (g : Listed 
         let e : first - 1 + j ≡ first + j - 1 = omega arith in
         let p = next_ok d 0 q.before.behind s q.read (q.read_ok 0) in
         let z : get_or g.walked.starts (first - 1 + j) 0 ≡ p.skipped.position = q.start ∙ sym p.start in
-        let b = before_is d (first + j) s q.before (omega arith) (omega (arith, g.high)) (subst (λ (i : ℕ). answer (walk d i 0 (first_boundary d)) s ≡ ok q.before) e (q.before-ok 0)) in
-        let c = in_found d (first + j) s q.before.behind b p.skipped (answer_ok _ s p.skipped p.skip-ok) in
+        let b = before_is d (first + j) s q.before (omega arith) (omega (arith, g.high)) (subst (λ (i : ℕ). answer (walk d i 0 (first_boundary d)) s ≡ ok q.before) e (q.before_ok 0)) in
+        let c = in_found d (first + j) s q.before.behind b p.skipped (answer_ok _ s p.skipped p.skip_ok) in
         ap (λ (i : ℕ). answer (read_from d.flows i) s) z ∙ c ∙ bind_answered header (λ x. read_in x (first + j)) s d g.head_ok
 
   item : (j : ℕ) (r : Answer Read) (l : List (Answer Read)) → drop j v ≡ r ∷ l → r ≡ answer (read_reading (first + j)) s
@@ -122,7 +122,7 @@ module _ (s : List ℕ) (first room : ℕ) (v : List (Answer Read)) (g : Listed 
   own j h =
       let q = nth d s (first - 1 + n) (first - 1 + j) (first_boundary d) g.walked (omega arith) g.walked-ok in
       let p = next_ok d 0 q.before.behind s q.read (q.read_ok 0) in
-      let f = subst (λ (i : ℕ). run (framing d.flows i) s ≡ passed q.read.behind.position) (sym q.start) (answer_ok _ s _ p.framing-ok) in
+      let f = subst (λ (i : ℕ). run (framing d.flows i) s ≡ passed q.read.behind.position) (sym q.start) (answer_ok _ s _ p.framing_ok) in
       subst OfItem (from_contents d.flows (get_or g.walked.starts (first - 1 + j) 0) s _ f _ refl ∙ item_is j h) (contents_own d.flows _ _ s)
 
 past_reads : (s : List ℕ) (d : Header) (k : ℕ) → answer header s ≡ ok d → d.reads < k → answer (read_reading k) s ≡ refused 7 0

@@ -44,7 +44,7 @@ module _ (d : Header) (s : List ℕ) where
       let z = done_ok _ w s e.2 in
       record {
         first = record { starts = a.0.start ∷ g.first.starts; behind = g.first.behind };
-        first_ok = λ j. simp (answer_bind, next_any d s i j b a.0 a.1, g.first-ok, answer_done);
+        first_ok = λ j. simp (answer_bind, next_any d s i j b a.0 a.1, g.first_ok, answer_done);
         rest = g.rest;
         rest_ok = g.rest_ok;
         starts = ap (λ (x : Passage). x.starts) (sym z) ∙ ap (λ (l : List ℕ). a.0.start ∷ l) g.starts;
@@ -107,13 +107,13 @@ module _ (d : Header) (s : List ℕ) where
       let a = bind_ok _ _ s g.rest (g.rest_ok 0) in
       let e = bind_ok _ _ s g.rest a.2 in
       let z = done_ok _ g.rest s e.2 in
-      let k = walk_length d s j 0 b g.first (g.first-ok 0) in
+      let k = walk_length d s j 0 b g.first (g.first_ok 0) in
       let x : w.starts ≡ g.first.starts ++ (a.0.start ∷ e.0.starts) = g.starts ∙ ap (λ (y : Passage). g.first.starts ++ y.starts) (sym z) in
       let r = walk_reach d s (n - (j + 1)) 1 a.0.behind e.0 e.1 in
       let f : e.0.behind.position ≡ w.behind.position = ap (λ (y : Passage). y.behind.position) z ∙ ap (λ (y : Boundary). y.position) (sym g.behind) in
       record {
         before = g.first;
-        before_ok = g.first-ok;
+        before_ok = g.first_ok;
         read = a.0;
         read_ok = λ i. next_any d s 0 i g.first.behind a.0 a.1;
         start = ap (λ (m : List ℕ). get_or m j 0) x ∙ ap (λ (i : ℕ). get_or (g.first.starts ++ (a.0.start ∷ e.0.starts)) i 0) (sym k) ∙ get_or-append_seam g.first.starts a.0.start e.0.starts 0;

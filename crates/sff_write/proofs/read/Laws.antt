@@ -35,13 +35,13 @@ fitting f r l u h =
     let j = bind_ok _ _ l u i.2 in
     let k = bind_ok _ _ l u j.2 in
     record {
-      name_fits_lem = leb-true _ _ (must_ok _ _ _ l a.0 a.1);
+      name_fits = leb-true _ _ (must_ok _ _ _ l a.0 a.1);
       flows_fit = leb-true _ _ (must_ok _ _ _ l b.0 b.1);
       flows_agree = eqb-true _ _ (must_ok _ _ _ l c.0 c.1);
       steps_agree = eqb-true _ _ (must_ok _ _ _ l d.0 d.1);
       qualities_agree = eqb-true _ _ (must_ok _ _ _ l e.0 e.1);
       bases_fit = leb-true _ _ (must_ok _ _ _ l g.0 g.1);
-      clips_fit_lem =
+      clips_fit =
           (leb-true _ _ (must_ok _ _ _ l i.0 i.1), leb-true _ _ (must_ok _ _ _ l j.0 j.1), leb-true _ _ (must_ok _ _ _ l k.0 k.1), leb-true _ _ (must_ok _ _ _ l u k.2));
     }
 

@@ -70,7 +70,7 @@ module _ (f p : ℕ) (r : GivenRead) (fit : Fitting f r) (d : ReadHeader) (e : d
 
   pub fit_size : (z : ℕ) → z ≡ padding (2 * length r.flows + 3 * length r.letters) → d.header_length + (2 * length r.flows + 3 * length r.letters) + z ≡ length (read_bytes (header_for p r) r)
   fit_size z q =
-      let a = length_read (header_for p r) r fit.steps-agree fit.qualities-agree in
+      let a = length_read (header_for p r) r fit.steps_agree fit.qualities_agree in
       let b = size_is (2 * length r.flows + 3 * length r.letters) z q in
       omega (arith, header_length_lem)
 
@@ -78,7 +78,7 @@ module _ (f p : ℕ) (r : GivenRead) (fit : Fitting f r) (d : ReadHeader) (e : d
   fit_length s o q h = rw (e, ← q) h
 
   pub fit_answer : (b : Bool) → pick b (ok tt) (refused 11 0) ≡ answer (contents_check d (length r.flows) r.steps) [] → pick b (ok tt) (refused 11 0) ≡ answer (contents_check (header_for p r) f r.steps) []
-  fit_answer b q = rw (← e, ← fit.flows-agree) q
+  fit_answer b q = rw (← e, ← fit.flows_agree) q
 
 -- a read whose lengths fit
 module _ (w : Writer) (r : GivenRead) (room : ℕ) (b : Bool) (q : pick b (ok tt) (refused 11 0) ≡ answer (contents_check (header_for w.at r) w.flows r.steps) []) where
