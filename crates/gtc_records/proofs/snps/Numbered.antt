@@ -103,7 +103,7 @@ module _ (s : List ℕ) (first room : ℕ) (v : List (Answer Snp)) (g : Passed s
       let l = g.low in
       let u = g.high in
       let k : is_number_of (first + j) count ≡ true = rw (le-leb 1 (first + j) (omega arith), le-leb (first + j) count (omega arith)) in
-      snp_any g.bytes (first - 1 + j) [] s ∙ ap (λ (x : ℕ). answer (snp_at g.bytes x) s) (omega arith) ∙ sym (snp_there s g.arrays g.arrays-ok (first + j) g.bytes g.bytes_ok k)
+      snp_any g.bytes (first - 1 + j) [] s ∙ ap (λ (x : ℕ). answer (snp_at g.bytes x) s) (omega arith) ∙ sym (snp_there s g.arrays g.arrays_ok (first + j) g.bytes g.bytes_ok k)
 
   item : (j : ℕ) (r : Answer Snp) (l : List (Answer Snp)) → drop j v ≡ r ∷ l → r ≡ answer (snp_reading (first + j)) s
   item j r l h = let i = item_of g.bytes many (first - 1) j r l (ap (drop j) (sym g.items) ∙ h) in i.0 ∙ snp_is j i.1
@@ -139,7 +139,7 @@ module _ (s : List ℕ) (first room : ℕ) (v : List (Answer Snp)) (w : answer (
           let l = g.low in
           let h = g.high in
           let k = leb-true _ room q in
-          inr (snp_none s g.arrays g.arrays-ok (first + length v) (rw (le-leb 1 (first + length v) (omega arith), lt-leb (first + length v) g.arrays.genotypes.count (omega arith))))
+          inr (snp_none s g.arrays g.arrays_ok (first + length v) (rw (le-leb 1 (first + length v) (omega arith), lt-leb (first + length v) g.arrays.genotypes.count (omega arith))))
 
 -- 13 only where not one fits
 pub many_full : (s : List ℕ) (first room e : ℕ) → answer (snps_reading first room) s ≡ refused 13 e → room < 9

@@ -89,13 +89,13 @@ module _ (s : List ℕ) (first room : ℕ) (v : List (Answer Read)) (g : Listed 
 
   counted : length v ≡ n
   counted =
-      let w = walk_length d s (first - 1 + n) 0 (first_boundary d) g.walked g.walked-ok in
+      let w = walk_length d s (first - 1 + n) 0 (first_boundary d) g.walked g.walked_ok in
       let l = length-drop (first - 1) g.walked.starts in
       ap length g.items ∙ reads_length d.flows _ (drop (first - 1) g.walked.starts) ∙ omega arith
 
   -- the items answer as on the file itself
   on_file : v ≡ drop (first - 1) (reads_at d.flows s g.walked.starts)
-  on_file = g.items ∙ reads_drop d.flows _ (first - 1) g.walked.starts ∙ ap (λ (l : List (Answer Read)). drop (first - 1) l) (reads_within d s (first - 1 + n) 0 g.walked.behind.position (first_boundary d) g.walked g.walked-ok (omega arith))
+  on_file = g.items ∙ reads_drop d.flows _ (first - 1) g.walked.starts ∙ ap (λ (l : List (Answer Read)). drop (first - 1) l) (reads_within d s (first - 1 + n) 0 g.walked.behind.position (first_boundary d) g.walked g.walked_ok (omega arith))
 
   module _ (j : ℕ) (h : j < n) where
     -- read j of the items is read first + j
@@ -103,7 +103,7 @@ module _ (s : List ℕ) (first room : ℕ) (v : List (Answer Read)) (g : Listed 
     unfolding read_reading
     item_is =
         let l = g.low in
-        let q = nth d s (first - 1 + n) (first - 1 + j) (first_boundary d) g.walked (omega arith) g.walked-ok in
+        let q = nth d s (first - 1 + n) (first - 1 + j) (first_boundary d) g.walked (omega arith) g.walked_ok in
         let e : first - 1 + j ≡ first + j - 1 = omega arith in
         let p = next_ok d 0 q.before.behind s q.read (q.read_ok 0) in
         let z : get_or g.walked.starts (first - 1 + j) 0 ≡ p.skipped.position = q.start ∙ sym p.start in
@@ -120,7 +120,7 @@ module _ (s : List ℕ) (first room : ℕ) (v : List (Answer Read)) (g : Listed 
   -- what it answers is its contents' answer
   own : (j : ℕ) → j < n → OfItem (answer (read_reading (first + j)) s)
   own j h =
-      let q = nth d s (first - 1 + n) (first - 1 + j) (first_boundary d) g.walked (omega arith) g.walked-ok in
+      let q = nth d s (first - 1 + n) (first - 1 + j) (first_boundary d) g.walked (omega arith) g.walked_ok in
       let p = next_ok d 0 q.before.behind s q.read (q.read_ok 0) in
       let f = subst (λ (i : ℕ). run (framing d.flows i) s ≡ passed q.read.behind.position) (sym q.start) (answer_ok _ s _ p.framing_ok) in
       subst OfItem (from_contents d.flows (get_or g.walked.starts (first - 1 + j) 0) s _ f _ refl ∙ item_is j h) (contents_own d.flows _ _ s)
