@@ -63,7 +63,7 @@ fn toy() -> Sources {
 }
 
 /// Public calls that no list has.
-const NEW_CALLS: [Change; 11] = [
+const NEW_CALLS: [Change; 12] = [
     (
         JUDGE,
         "pub(crate) fn inner",
@@ -110,6 +110,12 @@ const NEW_CALLS: [Change; 11] = [
         "crates.txt",
         "other: reading",
         "toy_more: reading",
+        &["toy_more::length: it is lent bytes, but neither a constructor nor tests/calls/no-reading-calls.txt names it"],
+    ),
+    (
+        "crates.txt",
+        "other: reading",
+        "toy_more staticlib: reading",
         &["toy_more::length: it is lent bytes, but neither a constructor nor tests/calls/no-reading-calls.txt names it"],
     ),
     (
