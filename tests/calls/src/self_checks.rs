@@ -33,7 +33,7 @@ pub fn run(report: &mut Report) {
     report.check(!nothing.failures.is_empty(), || {
         "self-check: no sources at all pass".to_string()
     });
-    let definitions = OTHER_DEFINITIONS.iter().chain(&TAILS);
+    let definitions = OTHER_DEFINITIONS.iter().chain(&TAILS).chain(&CLAUSES);
     for change in NEW_CALLS.iter().chain(definitions).chain(&NAMES) {
         check(report, &toy, change);
     }
@@ -276,6 +276,70 @@ const TAILS: [Change; 6] = [
             "toy::judge::judge: its ensures tells the tail by toy.Judge.extent_of, but constructor judge in Toy.antt by no extent",
             "jt_toy_judge: its ensures tells the tail by toy.Judge.extent_of, but constructor judge in Toy.antt by no extent",
         ],
+    ),
+];
+
+/// Clauses of another kind or by a name of their own, and words of clauses that no definition has, but a function.
+const CLAUSES: [Change; 8] = [
+    (
+        JUDGE,
+        "    ensures { verdict result",
+        "    requires judged { verdict result",
+        &[
+            "toy::judge::judge: its ensures cites no definition, but constructor judge in Toy.antt is toy.Judge.judging",
+            "toy::judge::judge: its ensures tells the tail by no extent, but constructor judge in Toy.antt by toy.Judge.extent_of",
+        ],
+    ),
+    (
+        LOOKUP,
+        "requires unused_answer { answer unused }",
+        "ensures unused_answer { answer unused }",
+        &["toy::lookup::lookup: its ensures cites toy.unused and toy.Lookup.looking_up, but constructor lookup in Toy.antt is toy.Lookup.looking_up"],
+    ),
+    (
+        LOOKUP,
+        "ensures result_value { found result ≡ map_answer length (answer (looking_up name)",
+        "ensures result_value { found result ≡ map_answer length (answer (found name)",
+        &["toy::lookup::lookup: its ensures cites toy.Lookup.found and toy.Lookup.looking_up, but constructor lookup in Toy.antt is toy.Lookup.looking_up"],
+    ),
+    (
+        JUDGE,
+        "ghost use Rattle.reading.specs.Verdict.{verdict_of};\n",
+        "",
+        &[
+            "toy::judge::judge: its ensures cites no definition, but constructor judge in Toy.antt is toy.Judge.judging",
+            "toy::judge::judge: its ensures tells the tail by no extent, but constructor judge in Toy.antt by toy.Judge.extent_of",
+        ],
+    ),
+    (
+        LOOKUP,
+        "Lookup.{looking_up, header as header_fields",
+        "Lookup.{header as header_fields",
+        &[
+            "toy::lookup::lookup: its ensures cites toy.looking_up, but constructor lookup in Toy.antt is toy.Lookup.looking_up",
+            "toy::lookup::data_part: its ensures cites toy.looking_up, but constructor lookup in Toy.antt is toy.Lookup.looking_up",
+        ],
+    ),
+    (
+        OPENED,
+        "ghost use Rattle.toy_file.specs.Opened.{of_opened};\n",
+        "",
+        &[
+            "toy_file::opened::lookup: it is given an opened file's place, but its ensures is not of it",
+            "toy_file::opened::lookup: its ensures cites toy_file.of_opened, but constructor lookup in Toy.antt is toy.Lookup.looking_up",
+        ],
+    ),
+    (
+        JUDGE,
+        "ghost use Rattle.toy.specs.Judge.{judging, verdict}",
+        "use Rattle.toy.specs.Judge.{judging, verdict}",
+        &["toy::judge::judge: its ensures cites toy.judging, but constructor judge in Toy.antt is toy.Judge.judging"],
+    ),
+    (
+        JUDGE,
+        "Rattle.toy.specs.Judge.{judging, verdict}",
+        "Rattle·toy·specs.specs.Judge.{judging, verdict}",
+        &["toy::judge::judge: its ensures cites Rattle·toy·specs.specs.Judge.judging, but constructor judge in Toy.antt is toy.Judge.judging"],
     ),
 ];
 
