@@ -6,7 +6,6 @@ use crate::words::{group, without_comments, words};
 use std::collections::BTreeSet;
 
 const BYTES: [&str; 3] = ["[", "u8", "]"];
-const CLAUSES: [&str; 2] = ["requires", "ensures"];
 /// What may stand between `pub` and `fn`.
 const MARKS: [&str; 4] = ["extern", "\"C\"", "unsafe", "const"];
 
@@ -84,7 +83,7 @@ pub fn public(sources: &Sources, krate: &str, holders: &BTreeSet<String>) -> Vec
             sources,
             krate,
             module: &module,
-            origins: Origins::of(&text, krate),
+            origins: Origins::of_source(&text, krate),
         };
         file.add_functions(&words(&text), holders, &mut found);
     }
@@ -118,7 +117,7 @@ impl File<'_> {
                     .any(|name| name == "place" || holders.contains(name)),
                 is_of_opened: promise
                     .iter()
-                    .any(|word| self.origins.origin(word).name == OF_OPENED),
+                    .any(|word| self.origins.is_one(word, &[OF_OPENED])),
                 cited: self.cited(&promise),
                 extents: self.origins.extents(&promise),
             });
@@ -157,7 +156,7 @@ impl File<'_> {
             module.replace('.', "/")
         );
         let text = without_comments(self.sources.text(&path), "--");
-        let origins = Origins::of(&text, &format!("{}.{module}", self.krate));
+        let origins = Origins::of_specs(&text, &format!("{}.{module}", self.krate));
         let clauses = crate::specs::clauses(&text, name);
         let mut found = Vec::new();
         for clause in &clauses {
@@ -176,15 +175,15 @@ fn is_public_function(words: &[&str]) -> bool {
     before.next() == Some(&"pub")
 }
 
-// What `ensures` says, of the words behind a function's parameters.
+// What `ensures` says, of the words behind a function's parameters. A clause may have a name before its bracket.
 fn promise<'a>(words: &[&'a str]) -> Vec<&'a str> {
     let mut found = Vec::new();
     let mut rest = words;
     while let Some(at) = rest.iter().position(|word| *word == "{") {
         let clause = group(&rest[at..]);
-        match at.checked_sub(1).map(|before| rest[before]) {
-            Some("ensures") => found.extend(clause),
-            Some(word) if CLAUSES.contains(&word) => {}
+        match rest[..at] {
+            [.., "ensures"] | [.., "ensures", _] => found.extend(clause),
+            [.., "requires"] | [.., "requires", _] => {}
             _ => break,
         }
         rest = &rest[(at + clause.len() + 2).min(rest.len())..];

@@ -33,7 +33,7 @@ pub fn run(report: &mut Report) {
     report.check(!nothing.failures.is_empty(), || {
         "self-check: no sources at all pass".to_string()
     });
-    let definitions = OTHER_DEFINITIONS.iter().chain(&TAILS);
+    let definitions = OTHER_DEFINITIONS.iter().chain(&TAILS).chain(&CLAUSES);
     for change in NEW_CALLS.iter().chain(definitions).chain(&NAMES) {
         check(report, &toy, change);
     }
@@ -63,7 +63,7 @@ fn toy() -> Sources {
 }
 
 /// Public calls that no list has.
-const NEW_CALLS: [Change; 11] = [
+const NEW_CALLS: [Change; 12] = [
     (
         JUDGE,
         "pub(crate) fn inner",
@@ -113,6 +113,12 @@ const NEW_CALLS: [Change; 11] = [
         &["toy_more::length: it is lent bytes, but neither a constructor nor tests/calls/no-reading-calls.txt names it"],
     ),
     (
+        "crates.txt",
+        "other: reading",
+        "toy_more staticlib: reading",
+        &["toy_more::length: it is lent bytes, but neither a constructor nor tests/calls/no-reading-calls.txt names it"],
+    ),
+    (
         CAPI,
         "jt_toy_normalise(x: u16)",
         "jt_toy_normalise(x: &[u8])",
@@ -140,93 +146,93 @@ const NEW_CALLS: [Change; 11] = [
 const OTHER_DEFINITIONS: [Change; 15] = [
     (
         JUDGE,
-        "verdictOf judging",
-        "verdictOf seeming",
+        "verdict_of judging",
+        "verdict_of seeming",
         &["toy::judge::judge: its ensures cites toy.seeming, but constructor judge in Toy.antt is toy.Judge.judging"],
     ),
     (
         JUDGE,
-        "verdictOf judging toyExtent",
-        "verdictOf (lookingUp judging) toyExtent",
-        &["toy::judge::judge: its ensures cites toy.lookingUp, but constructor judge in Toy.antt is toy.Judge.judging"],
+        "verdict_of judging toy_extent",
+        "verdict_of (looking_up judging) toy_extent",
+        &["toy::judge::judge: its ensures cites toy.looking_up, but constructor judge in Toy.antt is toy.Judge.judging"],
     ),
     (
         JUDGE,
-        "Rattle·toy·specs.specs.Judge.{judging, verdict}",
-        "Rattle·other.specs.Judge.{judging, verdict}",
+        "Rattle.toy.specs.Judge.{judging, verdict}",
+        "Rattle.other.specs.Judge.{judging, verdict}",
         &["toy::judge::judge: its ensures cites other.Judge.judging, but constructor judge in Toy.antt is toy.Judge.judging"],
     ),
     (
         CAPI,
-        "judging as toyJudging",
-        "seeming as toyJudging",
+        "judging as toy_judging",
+        "seeming as toy_judging",
         &["jt_toy_judge: its ensures cites toy.Judge.seeming, but constructor judge in Toy.antt is toy.Judge.judging"],
     ),
     (
         LOOKUP,
-        "filled (answer (lookingUp name)",
+        "filled (answer (looking_up name)",
         "filled (answer (found name)",
-        &["toy::lookup::lookup: its ensures cites toy.Lookup.found and toy.Lookup.lookingUp, but constructor lookup in Toy.antt is toy.Lookup.lookingUp"],
+        &["toy::lookup::lookup: its ensures cites toy.Lookup.found and toy.Lookup.looking_up, but constructor lookup in Toy.antt is toy.Lookup.looking_up"],
     ),
     (
         LOOKUP,
-        "header as headerFields",
-        "found as headerFields",
+        "header as header_fields",
+        "found as header_fields",
         &["toy::lookup::read_header: its ensures cites toy.Lookup.found, but constructor fields in Toy.antt is toy.Lookup.header"],
     ),
     (
         OPENED,
-        "ofOpened place count (lookingUp name)",
-        "ofOpened place count (listing name)",
-        &["toy_file::opened::lookup: its ensures cites toy_file.listing, but constructor lookup in Toy.antt is toy.Lookup.lookingUp"],
+        "of_opened place count (looking_up name)",
+        "of_opened place count (listing name)",
+        &["toy_file::opened::lookup: its ensures cites toy_file.listing, but constructor lookup in Toy.antt is toy.Lookup.looking_up"],
     ),
     (
         OPENED,
-        "ofOpened place count (lookingUp name)",
-        "lookingUp name",
+        "of_opened place count (looking_up name)",
+        "looking_up name",
         &["toy_file::opened::lookup: it is given an opened file's place, but its ensures is not of it"],
     ),
     (
         FILE,
-        "answer (ofOpened (f .entry .place) (f .entry .count) (lookingUp name))",
-        "answer (lookingUp name)",
+        "answer (of_opened f.entry.place f.entry.count (looking_up name))",
+        "answer (looking_up name)",
         &["toy_file::file::lookup: it is given an opened file's place, but its ensures is not of it"],
     ),
     (
         CAPI,
-        "answer (lookingUp name)",
-        "answer (ofOpened 0 0 (lookingUp name))",
+        "answer (looking_up name)",
+        "answer (of_opened 0 0 (looking_up name))",
         &["jt_toy_lookup: it is given no opened file's place, but its ensures is of one"],
     ),
     (
         FILE_SPEC,
         "answer opening",
         "answer judging",
-        &["toy_file::file::open: its ensures cites toy_file.File.judging, but constructor openFile in Toy.antt is toy_file.Opened.opening"],
+        &["toy_file::file::open: its ensures cites toy_file.File.judging, but constructor open_file in Toy.antt is toy_file.Opened.opening"],
     ),
     (
         FILE,
-        "r ≡ openedFile (s .entry)",
-        "r ≡ s",
-        &["toy_file::file::open: its ensures cites no definition, but constructor openFile in Toy.antt is toy_file.Opened.opening"],
+        "result ≡ opened_file s.entry",
+        "result ≡ s",
+        &["toy_file::file::open: its ensures cites no definition, but constructor open_file in Toy.antt is toy_file.Opened.opening"],
     ),
     (
         FILE,
-        "    ensures { λ r. ⌜ r ≡ openedFile (s .entry) ⌝ }\n",
+        "    ensures { result ≡ opened_file s.entry }\n",
         "",
-        &["toy_file::file::open: its ensures cites no definition, but constructor openFile in Toy.antt is toy_file.Opened.opening"],
+        &["toy_file::file::open: its ensures cites no definition, but constructor open_file in Toy.antt is toy_file.Opened.opening"],
     ),
     (
         SPEC,
-        "call fields = filling headerReading",
+        "call fields = filling header_reading",
         "call fields = filling judging",
         &["toy::lookup::read_header: its ensures cites toy.Lookup.header, but constructor fields in Toy.antt is toy.Judge.judging"],
     ),
     (
         SPEC,
-        "header as headerReading",
-        "lookingUp as headerReading",
-        &["toy::lookup::read_header: its ensures cites toy.Lookup.header, but constructor fields in Toy.antt is toy.Lookup.lookingUp"],
+        "header as header_reading",
+        "looking_up as header_reading",
+        &["toy::lookup::read_header: its ensures cites toy.Lookup.header, but constructor fields in Toy.antt is toy.Lookup.looking_up"],
     ),
 ];
 
@@ -234,42 +240,106 @@ const OTHER_DEFINITIONS: [Change; 15] = [
 const TAILS: [Change; 6] = [
     (
         JUDGE,
-        "verdictOf judging toyExtent",
-        "verdictOf judging seeming",
-        &["toy::judge::judge: its ensures tells the tail by toy.seeming, but constructor judge in Toy.antt by toy.Judge.extentOf"],
+        "verdict_of judging toy_extent",
+        "verdict_of judging seeming",
+        &["toy::judge::judge: its ensures tells the tail by toy.seeming, but constructor judge in Toy.antt by toy.Judge.extent_of"],
     ),
     (
         JUDGE,
-        "verdictOf judging toyExtent",
-        "verdictOf judging (λ x. 0)",
-        &["toy::judge::judge: its ensures tells the tail by toy.λ, but constructor judge in Toy.antt by toy.Judge.extentOf"],
+        "verdict_of judging toy_extent",
+        "verdict_of judging (λ x. 0)",
+        &["toy::judge::judge: its ensures tells the tail by toy.λ, but constructor judge in Toy.antt by toy.Judge.extent_of"],
     ),
     (
         JUDGE,
-        "verdictOf judging toyExtent",
+        "verdict_of judging toy_extent",
         "answer judging",
-        &["toy::judge::judge: its ensures tells the tail by no extent, but constructor judge in Toy.antt by toy.Judge.extentOf"],
+        &["toy::judge::judge: its ensures tells the tail by no extent, but constructor judge in Toy.antt by toy.Judge.extent_of"],
     ),
     (
         CAPI,
-        "Rattle·toy.specs.Judge.{extentOf}",
-        "Rattle·other.specs.Judge.{extentOf}",
-        &["jt_toy_judge: its ensures tells the tail by other.Judge.extentOf, but constructor judge in Toy.antt by toy.Judge.extentOf"],
+        "Rattle.toy.specs.Judge.{extent_of}",
+        "Rattle.other.specs.Judge.{extent_of}",
+        &["jt_toy_judge: its ensures tells the tail by other.Judge.extent_of, but constructor judge in Toy.antt by toy.Judge.extent_of"],
     ),
     (
         CAPI,
-        "asItem (answer (lookingUp name) (now",
-        "asItem (verdictOf (lookingUp name) extentOf (now",
-        &["jt_toy_lookup: its ensures tells the tail by toy.Judge.extentOf, but constructor lookup in Toy.antt by no extent"],
+        "as_item (answer (looking_up name) s.now",
+        "as_item (verdict_of (looking_up name) extent_of s.now",
+        &["jt_toy_lookup: its ensures tells the tail by toy.Judge.extent_of, but constructor lookup in Toy.antt by no extent"],
     ),
     (
         SPEC,
-        "; extent = extentOf }",
+        "; extent = extent_of }",
         " }",
         &[
-            "toy::judge::judge: its ensures tells the tail by toy.Judge.extentOf, but constructor judge in Toy.antt by no extent",
-            "jt_toy_judge: its ensures tells the tail by toy.Judge.extentOf, but constructor judge in Toy.antt by no extent",
+            "toy::judge::judge: its ensures tells the tail by toy.Judge.extent_of, but constructor judge in Toy.antt by no extent",
+            "jt_toy_judge: its ensures tells the tail by toy.Judge.extent_of, but constructor judge in Toy.antt by no extent",
         ],
+    ),
+];
+
+/// Clauses of another kind or by a name of their own, and words of clauses that no definition has, but a function.
+const CLAUSES: [Change; 8] = [
+    (
+        JUDGE,
+        "    ensures { verdict result",
+        "    requires judged { verdict result",
+        &[
+            "toy::judge::judge: its ensures cites no definition, but constructor judge in Toy.antt is toy.Judge.judging",
+            "toy::judge::judge: its ensures tells the tail by no extent, but constructor judge in Toy.antt by toy.Judge.extent_of",
+        ],
+    ),
+    (
+        LOOKUP,
+        "requires unused_answer { answer unused }",
+        "ensures unused_answer { answer unused }",
+        &["toy::lookup::lookup: its ensures cites toy.unused and toy.Lookup.looking_up, but constructor lookup in Toy.antt is toy.Lookup.looking_up"],
+    ),
+    (
+        LOOKUP,
+        "ensures result_value { found result ≡ map_answer length (answer (looking_up name)",
+        "ensures result_value { found result ≡ map_answer length (answer (found name)",
+        &["toy::lookup::lookup: its ensures cites toy.Lookup.found and toy.Lookup.looking_up, but constructor lookup in Toy.antt is toy.Lookup.looking_up"],
+    ),
+    (
+        JUDGE,
+        "ghost use Rattle.reading.specs.Verdict.{verdict_of};\n",
+        "",
+        &[
+            "toy::judge::judge: its ensures cites no definition, but constructor judge in Toy.antt is toy.Judge.judging",
+            "toy::judge::judge: its ensures tells the tail by no extent, but constructor judge in Toy.antt by toy.Judge.extent_of",
+        ],
+    ),
+    (
+        LOOKUP,
+        "Lookup.{looking_up, header as header_fields",
+        "Lookup.{header as header_fields",
+        &[
+            "toy::lookup::lookup: its ensures cites toy.looking_up, but constructor lookup in Toy.antt is toy.Lookup.looking_up",
+            "toy::lookup::data_part: its ensures cites toy.looking_up, but constructor lookup in Toy.antt is toy.Lookup.looking_up",
+        ],
+    ),
+    (
+        OPENED,
+        "ghost use Rattle.toy_file.specs.Opened.{of_opened};\n",
+        "",
+        &[
+            "toy_file::opened::lookup: it is given an opened file's place, but its ensures is not of it",
+            "toy_file::opened::lookup: its ensures cites toy_file.of_opened, but constructor lookup in Toy.antt is toy.Lookup.looking_up",
+        ],
+    ),
+    (
+        JUDGE,
+        "ghost use Rattle.toy.specs.Judge.{judging, verdict}",
+        "use Rattle.toy.specs.Judge.{judging, verdict}",
+        &["toy::judge::judge: its ensures cites toy.judging, but constructor judge in Toy.antt is toy.Judge.judging"],
+    ),
+    (
+        JUDGE,
+        "Rattle.toy.specs.Judge.{judging, verdict}",
+        "Rattle·toy·specs.specs.Judge.{judging, verdict}",
+        &["toy::judge::judge: its ensures cites Rattle·toy·specs.specs.Judge.judging, but constructor judge in Toy.antt is toy.Judge.judging"],
     ),
 ];
 
@@ -292,7 +362,7 @@ const NAMES: [Change; 12] = [
         "  -- toy_file::file::open\n",
         "  -- opening\n",
         &[
-            "constructor openFile in Toy.antt: names no function",
+            "constructor open_file in Toy.antt: names no function",
             "toy_file::file::open: it is lent bytes, but neither a constructor nor tests/calls/no-reading-calls.txt names it",
         ],
     ),
@@ -304,8 +374,8 @@ const NAMES: [Change; 12] = [
     ),
     (
         SPEC,
-        "  openFile : Call\n",
-        "  openFile : Call\n  again : Call\n",
+        "  open_file : Call\n",
+        "  open_file : Call\n  again : Call\n",
         &["constructor again in Toy.antt: has no clause that gives its definition"],
     ),
     (
@@ -315,7 +385,7 @@ const NAMES: [Change; 12] = [
         &[
             "constructor judge in Toy.antt: has no clause that gives its definition",
             "constructor fields in Toy.antt: has no clause that gives its definition",
-            "constructor openFile in Toy.antt: has no clause that gives its definition",
+            "constructor open_file in Toy.antt: has no clause that gives its definition",
             "constructor of in Toy.antt: has no clause that gives its definition",
             "constructor opened in Toy.antt: has no clause that gives its definition",
         ],
@@ -336,7 +406,7 @@ const NAMES: [Change; 12] = [
         &[
             "toy_write::write::write: it is named more than once: constructor judge in Toy.antt, tests/calls/no-reading-calls.txt",
             "toy_write::write::write: its ensures cites toy_write.Write.writing, but constructor judge in Toy.antt is toy.Judge.judging",
-            "toy_write::write::write: its ensures tells the tail by no extent, but constructor judge in Toy.antt by toy.Judge.extentOf",
+            "toy_write::write::write: its ensures tells the tail by no extent, but constructor judge in Toy.antt by toy.Judge.extent_of",
         ],
     ),
     (

@@ -48,11 +48,11 @@ impl Sources {
         })
     }
 
-    /// The names of all crates.
+    /// The names of all crates, each the first word of its line: before the colon may stand what the crate is.
     pub fn crates(&self) -> Vec<&str> {
         let lines = self.text(CRATES).lines();
         lines
-            .filter_map(|line| Some(line.split_once(':')?.0))
+            .filter_map(|line| line.split_once(':')?.0.split_whitespace().next())
             .collect()
     }
 }

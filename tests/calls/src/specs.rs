@@ -47,7 +47,7 @@ pub fn constructors(text: &str, own: &str) -> Vec<Constructor> {
         return Vec::new();
     }
     let code = without_comments(text, COMMENT);
-    let origins = Origins::of(&code, own);
+    let origins = Origins::of_specs(&code, own);
     let givers = givers(&code, &blocks);
     let judging = judging(&code, &origins);
     let mut found = Vec::new();

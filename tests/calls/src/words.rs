@@ -1,6 +1,6 @@
 //! The words of a text, and the bracketed groups among them.
 
-const ALONE: [char; 10] = ['(', ')', '{', '}', '[', ']', ',', ';', '⌜', '⌝'];
+const ALONE: [char; 8] = ['(', ')', '{', '}', '[', ']', ',', ';'];
 
 /// The text cut at spaces; brackets, commas and semicolons are words of their own.
 pub fn words(text: &str) -> Vec<&str> {
