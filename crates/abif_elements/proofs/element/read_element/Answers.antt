@@ -1,0 +1,24 @@
+use mathlib.Core.Path.{◌∙◌, sym, ap}
+use borrow.Author.Rules.{rules}
+use Rattle.reading.proofs.Passed.{bind_refused, bind_answered}
+use Rattle.abif.specs.Lookup.{looking_up}
+use Rattle.reading.specs.Answers.{answer_of_found}
+use Rattle.abif_elements.specs.Element.{element_of, element_reading}
+use Rattle.abif.proofs.lookup.Laws.{found_checked}
+use Rattle.abif_elements.proofs.element.read_element.Goals as goal
+
+pub element_of-requires : goal.element_of-requires
+element_of-requires c = let g = c.args in
+    found_checked g.s.now g.name g.number _ (sym c.lookup.ensures ∙ ap answer_of_found c.in-Data.is)
+
+pub returns-in-Refused : goal.returns-in-Refused
+unfolding element_reading
+returns-in-Refused c =
+    let g = c.args in
+    bind_refused (looking_up g.name g.number) (λ q. element_of q g.index) g.s.now _ 0 (sym c.lookup.ensures ∙ ap answer_of_found c.in-Refused.is)
+
+pub returns-in-Data : goal.returns-in-Data
+unfolding element_reading
+returns-in-Data c =
+    let g = c.args in
+    c.element_of.ensures ∙ bind_answered (looking_up g.name g.number) (λ q. element_of q g.index) g.s.now _ (sym c.lookup.ensures ∙ ap answer_of_found c.in-Data.is)

@@ -1,0 +1,65 @@
+use Prim.Native.Nat.{ℕ, ◌+◌, ◌-◌, ◌*◌, ◌/◌, ◌≤◌}
+use mathlib.Core.List.{List, ◌++◌}
+use mathlib.Core.Path.{◌≡◌, sym, ◌∙◌, ap, subst}
+use native.Mathlib.Omega.{arith}
+use lib.ListN.{length, drop}
+use borrow.Author.Rules.{rules}
+use Rattle.reading.proofs.Fill.{Lanes, lanes_start, lanes_next, lanes_end}
+use Rattle.reading.proofs.Loop.{Left, left_start, left_next, left_end}
+use Rattle.reading.specs.Bulk.{record_of, records}
+use Rattle.sff_fields.specs.Answers.{answer_of_read_found}
+use Rattle.sff_fields.proofs.record.Laws.{record_wide, two_written}
+use Rattle.sff.specs.Private.{Passes}
+use Rattle.sff.specs.Reads.{reads_at}
+use Rattle.sff_fields.specs.Parts.{read_numbers}
+use Rattle.sff.proofs.reads.Laws.{along, along_is, farther, farther_next, farther_end, farther_is, passes_first, passes_next, numbers_left, numbers_next, numbers_none}
+use Rattle.sff.proofs.walk.Laws.{next_passed_within, next_passed_start}
+use Rattle.sff.proofs.reads.put_pairs.Goals as goal
+
+pub sound_read-one-requires : goal.sound_read-one-requires
+sound_read-one-requires c = let l = c.loop-i in
+    let g = c.args in
+    (l.invariant.3, passes_first g.d g.s.now g.n l.i l.here (omega arith) l.invariant.5)
+
+pub sound_read-other-requires : goal.sound_read-other-requires
+sound_read-other-requires c = let l = c.loop-i in
+    let g = c.args in
+    (l.invariant.4, passes_first g.d g.s.now g.n l.i l.there (omega arith) l.invariant.6)
+
+pub read_from-requires : goal.read_from-requires
+read_from-requires c = let l = c.loop-i in
+    let g = c.args in
+    next_passed_start g.d 0 l.here g.s.now _ l.invariant.3 c.sound_read-one.ensures
+
+pub read_from-requires-in-loop-i : goal.read_from-requires-in-loop-i
+read_from-requires-in-loop-i c = let l = c.loop-i in
+    let g = c.args in
+    next_passed_start g.d 0 l.there g.s.now _ l.invariant.4 c.sound_read-other.ensures
+
+pub loop-i-preserved : goal.loop-i-preserved
+loop-i-preserved c = let l = c.loop-i in
+    let g = c.args in
+    let o = c.sound_read-one.ensures in
+    let q = c.sound_read-other.ensures in
+    let r = c.read_from.ensures in
+    let t = c.read_from-in-loop-i.ensures in
+    let one = answer_of_read_found c.read_from.result in
+    let other = answer_of_read_found c.read_from-in-loop-i.result in
+    let k : 17 * l.i + 17 ≡ 17 * (l.i + 1) = omega arith in
+    let f = lanes_next _ _ (17 * g.n) (17 * l.i) g.out.now l.out _ l.invariant.0 17 (omega arith) (record_of 17 read_numbers one) (record_of 17 read_numbers other) (record_wide one) (record_wide other) _ _ (numbers_next g.d g.s.now l.here _ o one r) (numbers_next g.d g.s.now l.there _ q other t) in (
+      rw (two_written l.out (17 * l.i) (17 * g.n + 17 * l.i) one other _ _ c.put_record.ensures c.put_record-in-loop-i.ensures (omega (arith, l.invariant.0.room)) (omega (arith, l.invariant.0.room)), ← k) f,
+      left_next _ g.n l.i _ l.invariant.1 _ (farther_next g.d g.s.now l.there _ q),
+      omega arith,
+      next_passed_within g.d 0 l.here g.s.now _ o,
+      next_passed_within g.d 0 l.there g.s.now _ q,
+      passes_next g.d g.s.now g.n l.i l.here (omega arith) l.invariant.5 _ o,
+      passes_next g.d g.s.now g.n l.i l.there (omega arith) l.invariant.6 _ q,
+    )
+
+pub returns-clause-value : goal.returns-clause-value
+returns-clause-value c = let l = c.loop-i in
+    let g = c.args in λ v k. sym (farther_end g.d g.s.now l.there) ∙ left_end _ g.n l.i _ l.invariant.1 l.invariant.2 (omega arith) ∙ farther_is g.d g.s.now g.n g.c v k
+
+pub returns-clause-out_after : goal.returns-clause-out_after
+returns-clause-out_after c = let l = c.loop-i in
+    let g = c.args in λ w v h k. lanes_end _ _ _ _ _ _ _ l.invariant.0 (omega arith) (numbers_none g.d g.s.now l.here) (numbers_none g.d g.s.now l.there) ∙ ap (λ (x : List ℕ). records 17 read_numbers (reads_at g.d.flows g.s.now x) ++ (records 17 read_numbers (reads_at g.d.flows g.s.now (along g.d g.s.now g.n g.c)) ++ drop (17 * g.n + 17 * g.n) g.out.now)) (along_is g.d g.s.now g.n g.b w h) ∙ ap (λ (x : List ℕ). records 17 read_numbers (reads_at g.d.flows g.s.now w.starts) ++ (records 17 read_numbers (reads_at g.d.flows g.s.now x) ++ drop (17 * g.n + 17 * g.n) g.out.now)) (along_is g.d g.s.now g.n g.c v k)

@@ -1,0 +1,24 @@
+use Prim.Native.Nat.{ℕ, ◌-◌, ◌*◌, ◌/◌, ◌≤◌}
+use mathlib.Core.List.{List, ◌++◌}
+use mathlib.Core.Path.{◌≡◌, ◌∙◌, ap, subst}
+use native.Mathlib.Omega.{arith}
+use lib.ListN.{length, drop}
+use borrow.Author.Rules.{rules}
+use Rattle.reading.proofs.Fill.{Filling, fill_start, fill_record, fill_end}
+use Rattle.reading.specs.Bulk.{record_of, records}
+use Rattle.sff_fields.specs.Answers.{answer_of_read_found}
+use Rattle.sff_fields.proofs.record.Laws.{record_wide, one_written}
+use Rattle.sff.specs.Private.{Passes}
+use Rattle.sff.specs.Reads.{reads_at}
+use Rattle.sff_fields.specs.Parts.{read_numbers}
+use Rattle.sff.proofs.reads.Laws.{along, along_is, passes_first, passes_next, numbers_left, numbers_next, numbers_none}
+use Rattle.sff.proofs.walk.Laws.{next_passed_within, next_passed_start}
+use Rattle.sff.proofs.reads.put_reads.Given as goal
+
+abbrev pub invariant-loop-i : goal.invariant-loop-i
+invariant-loop-i l =
+    Filling (numbers_left l.d l.s l.here) (17 * l.n) l.p l.initial.out l.out (records 17 read_numbers (reads_at l.d.flows l.s (along l.d l.s l.n l.initial.here)) ++ drop (17 * l.n) l.initial.out) × (l.p ≡ 17 * l.i) × (l.i ≤ l.n) × (l.here.position ≤ length l.s) × Passes l.d l.s (l.n - l.i) l.here
+
+abbrev pub decreases-loop-i : goal.decreases-loop-i
+decreases-loop-i l =
+    l.n - l.i
