@@ -1,0 +1,22 @@
+use Prim.Native.Nat.{◌-◌}
+use mathlib.Core.List.{◌++◌}
+use native.Mathlib.Omega.{arith}
+use lib.ListN.{take}
+use borrow.Author.Rules.{rules}
+use Rattle.writing.proofs.Begun.{Begun, begun_start}
+use Rattle.abif_write.specs.Item.{records, item_at}
+use Rattle.abif_write.specs.File.{all_data}
+use Rattle.abif_write.proofs.file.Laws.{item_present, datas_room, datas_next, datas_end}
+use Rattle.abif_write.proofs.file.put_datas.Goals as goal
+
+pub loop-i-preserved : goal.loop-i-preserved
+loop-i-preserved c =
+    let g = c.args in
+    let l = c.loop-i in
+    datas_next (item_at (records g.names.now g.numbers.now g.types.now g.counts.now g.starts.now g.lengths.now)) g.buffer.now _ _ _ _ _ l.invariant c.loop-i-test.true c.requires.names_in_bounds _ c.item_at-d.ensures (c.requires.accepted.sound l.i c.loop-i-test.true) _ c.size_outside-at.ensures _ c.put_data.ensures
+
+pub returns : goal.returns
+returns c =
+    let g = c.args in
+    let l = c.loop-i in
+    datas_end (item_at (records g.names.now g.numbers.now g.types.now g.counts.now g.starts.now g.lengths.now)) g.buffer.now _ _ _ _ l.i l.invariant c.loop-i-test.false c.requires.names_in_bounds
