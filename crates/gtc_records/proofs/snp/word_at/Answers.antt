@@ -1,0 +1,7 @@
+use mathlib.Core.Path.{◌∙◌}
+use borrow.Author.Rules.{rules}
+use Rattle.reading.proofs.Width.{le_part}
+use Rattle.gtc_records.proofs.snp.word_at.Goals as goal
+
+pub returns : goal.returns
+returns c = let g = c.args in c.le16.ensures ∙ le_part 2 g.p g.l.now
