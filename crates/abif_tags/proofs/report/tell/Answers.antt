@@ -1,0 +1,25 @@
+use Prim.Native.Nat.{◌+◌, ◌-◌, ◌≤◌}
+use mathlib.Core.Path.{◌≡◌}
+use native.Mathlib.Omega.{arith}
+use lib.ListN.{length}
+use borrow.Author.Rules.{rules}
+use Rattle.abif_tags.specs.Private.{told, left}
+use Rattle.abif_tags.proofs.report.Laws.{Written, written_start, written_next, written_end, left_none, told_few}
+use Rattle.abif_tags.proofs.report.tell.Goals as goal
+
+pub loop-i-preserved : goal.loop-i-preserved
+loop-i-preserved c =
+    let g = c.args in
+    let s = c.next_step-s in
+    let t = told_few s.result.tag s.result.kind in
+    let w = written_next _ _ c.loop-i.m g.out.now c.loop-i.out c.loop-i.invariant.0 (told s.result.tag s.result.kind) _ s.ensures.j_value (omega arith) in
+    (rw (c.put-m.ensures.0, c.put-m.ensures.1) w, c.loop-i.invariant.1, omega (arith, c.put-m.ensures.1, s.ensures.entries_in_bounds), s.ensures.entries_in_bounds.0, s.ensures.entries_in_bounds.1)
+
+pub returns : goal.returns
+returns c =
+    let g = c.args in
+    let e = written_end _ _ c.loop-i.m g.out.now c.loop-i.out c.loop-i.invariant.0 (left_none g.profile g.h.now g.p g.order.now c.loop-i.i c.loop-i.j (omega arith) (omega arith)) in
+    record {
+      value = e.0;
+      result_in_bounds = (omega arith, e.1);
+    }
