@@ -97,8 +97,8 @@ pub fn type_of(k: u16) -> ElementType
         11 => ElementType::Listed(4), // time
         12 => ElementType::Listed(10), // thumb
         13 => ElementType::Listed(1), // bool
-        18 => ElementType::Listed(1), // p_string
-        19 => ElementType::Listed(1), // c_string
+        18 => ElementType::Listed(1), // pString
+        19 => ElementType::Listed(1), // cString
         // legacy types
         6 | 9 | 14 | 16 | 20 | 128 | 256 | 384 => ElementType::Raw,
         15 | 17 => ElementType::Raw,

@@ -31,7 +31,7 @@ whole_at code bytes p =
     (pick (eqb code 3) (pos (be 2 bytes p))  -- word
     (pick (eqb code 4) (signed 2 (be 2 bytes p))  -- short
     (pick (eqb code 5) (signed 4 (be 4 bytes p))  -- long
-    -- p_string and c_string elements are their bytes
+    -- pString and cString elements are their bytes
     (pos (be 1 bytes p))))))
 
 -- a date: i16 year, month, day; 11 where its rule does not hold

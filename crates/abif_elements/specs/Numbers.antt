@@ -8,7 +8,7 @@ use Rattle.reading.specs.declared.item.ItemData.{ItemData}
 use Rattle.abif.specs.Lookup.{looking_up}
 use Rattle.abif_elements.specs.Element.{whole_at, size_of, element_place, item_bytes}
 
--- the types whose elements are whole numbers: byte, char, word, short, long, p_string, c_string
+-- the types whose elements are whole numbers: byte, char, word, short, long, pString, cString
 unfoldable pub is_whole : ℕ → Bool
 is_whole code = among code (1 ∷ 2 ∷ 3 ∷ 4 ∷ 5 ∷ 18 ∷ 19 ∷ [])
 

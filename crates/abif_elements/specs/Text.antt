@@ -9,19 +9,19 @@ use Rattle.abif.specs.Lookup.{looking_up}
 use Rattle.reading.specs.Item.{data_span}
 use Rattle.abif_elements.specs.Element.{item_bytes}
 
--- a p_string, whose first byte the text lacks; 11 where its rule does not hold
+-- a pString, whose first byte the text lacks; 11 where its rule does not hold
 unfoldable pub p_string : ItemData → List ℕ → Check Span
 p_string item bytes = do
   provided (is_pstring (bytes_at bytes (data_span item))) 11
   done (record { start = item.start + 1; size = item.size - 1 })
 
--- a c_string, whose last byte the text lacks; 11 where its rule does not hold
+-- a cString, whose last byte the text lacks; 11 where its rule does not hold
 unfoldable pub c_string : ItemData → List ℕ → Check Span
 c_string item bytes = do
   provided (is_cstring (bytes_at bytes (data_span item))) 11
   done (record { start = item.start; size = item.size - 1 })
 
--- other types than p_string and c_string 10
+-- other types than pString and cString 10
 unfoldable pub text_of : ItemData → Check Span
 text_of item = do
   provided (among item.code (18 ∷ 19 ∷ [])) 10

@@ -250,7 +250,7 @@ stands_at profile tag k = stands_for (row_at profile k) tag
 abbrev pub row_for : ℕ → Tag → ℕ
 row_for profile tag = first_with (stands_at profile tag) row_count 0
 
--- the types of text: p_string and c_string
+-- the types of text: pString and cString
 abbrev pub is_text : ℕ → Bool
 is_text code = among code (18 ∷ 19 ∷ [])
 

@@ -34,9 +34,9 @@ fn copy(found: &[i64], n: usize, out: &mut [i64])
 // The report on the n entries of the directory at p, which the bytes end with.
 fn check_entries(h: &[u8], p: u32, n: usize, profile: u64, out: &mut [i64]) -> Copied
     requires { (is_number_of profile 8 ≡ true) × (n ≤ 999) }
-    ensures by_index { (l : List ℕ) → answer_of_copied result
+    ensures result_value { (l : List ℕ) → answer_of_copied result
         ≡ map_answer length (answer (reporting profile (length out.old) (record { place = p; count = n; up_to = h.now })) l) }
-    ensures by_index_2 { (l : List ℕ) → out.new
+    ensures out_after { (l : List ℕ) → out.new
         ≡ filled (map_answer finding_numbers (answer (reporting profile (length out.old) (record { place = p; count = n; up_to = h.now })) l)) out.old }
 {
     let mut order = [0; 1000];

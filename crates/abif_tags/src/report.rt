@@ -94,9 +94,9 @@ fn next_step(
     j: usize,
 ) -> Step
     requires { (is_number_of profile 8 ≡ true) × (table.now ≡ packed_table) × (i ≤ length order.now) × (j ≤ 112) × (i + j < length order.now + 112) }
-    ensures j_value { left profile h.now p order.now i j
+    ensures step_told { left profile h.now p order.now i j
         ≡ told result.tag result.kind ++ left profile h.now p order.now result.entries result.rows }
-    ensures entries_in_bounds { (result.entries ≤ length order.now) × (result.rows ≤ 112) × (i + j < result.entries + result.rows) }
+    ensures step_in_bounds { (result.entries ≤ length order.now) × (result.rows ≤ 112) × (i + j < result.entries + result.rows) }
 {
     let n = order.len();
     if j == ROW_COUNT {
@@ -145,7 +145,7 @@ pub(crate) fn tell(
 ) -> usize
     requires { (is_number_of profile 8 ≡ true) × (table.now ≡ packed_table) × (3 * (length order.now + 112) ≤ length out.old) }
     ensures value { result ≡ length (left profile h.now p order.now 0 0) }
-    ensures result_in_bounds { (3 * result ≤ length out.old) × (out.new ≡ finding_numbers (left profile h.now p order.now 0 0) ++ drop (3 * result) out.old) }
+    ensures out_after { (3 * result ≤ length out.old) × (out.new ≡ finding_numbers (left profile h.now p order.now 0 0) ++ drop (3 * result) out.old) }
 {
     let n = order.len();
     let mut i = 0;

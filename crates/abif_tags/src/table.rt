@@ -38,19 +38,19 @@ pub(crate) const ROW_COUNT: usize = 112;
 // with 20 more for an array, 42 for char[4] and ff for user; and a digit for each instrument and software, four for ab1 and one for fsa where the row is
 // required, twice that where it is optional.
 pub(crate) const TABLE: [u64; 112] = [
-    0x414e4d45_01_13_1011, // ANME 1, c_string
-    0x4150464e_02_12_4444, // APFN 2, p_string
-    0x41505856_01_13_4444, // APXV 1, c_string
-    0x4150724e_01_13_4444, // APrN 1, c_string
-    0x41507256_01_13_4444, // APrV 1, c_string
+    0x414e4d45_01_13_1011, // ANME 1, cString
+    0x4150464e_02_12_4444, // APFN 2, pString
+    0x41505856_01_13_4444, // APXV 1, cString
+    0x4150724e_01_13_4444, // APrN 1, cString
+    0x41507256_01_13_4444, // APrV 1, cString
     0x41507258_01_22_4444, // APrX 1, char array
     0x42756654_01_24_0055, // BufT 1, short array
-    0x434d4e54_01_12_8888, // CMNT 1, p_string
-    0x434d4e54_81_12_2222, // CMNT 1-N, p_string
-    0x43544944_01_13_5555, // CTID 1, c_string
-    0x43544e4d_01_13_5555, // CTNM 1, c_string
-    0x43544f77_01_13_0505, // CTOw 1, c_string
-    0x4354544c_01_12_5555, // CTTL 1, p_string
+    0x434d4e54_01_12_8888, // CMNT 1, pString
+    0x434d4e54_81_12_2222, // CMNT 1-N, pString
+    0x43544944_01_13_5555, // CTID 1, cString
+    0x43544e4d_01_13_5555, // CTNM 1, cString
+    0x43544f77_01_13_0505, // CTOw 1, cString
+    0x4354544c_01_12_5555, // CTTL 1, pString
     0x43704550_01_01_5555, // CpEP 1, byte
     0x44415441_01_24_5555, // DATA 1, short array
     0x44415441_02_24_5555, // DATA 2, short array
@@ -63,42 +63,42 @@ pub(crate) const TABLE: [u64; 112] = [
     0x44415441_69_24_aaaa, // DATA 105, short array
     0x44434854_01_04_0105, // DCHT 1, short
     0x4453616d_01_04_5555, // DSam 1, short
-    0x4479534e_01_12_5555, // DySN 1, p_string
+    0x4479534e_01_12_5555, // DySN 1, pString
     0x44796523_01_04_5555, // Dye# 1, short
     0x44796542_01_02_1111, // DyeB 1, char
     0x44796542_02_02_1111, // DyeB 2, char
     0x44796542_03_02_1111, // DyeB 3, char
     0x44796542_04_02_1111, // DyeB 4, char
     0x44796542_05_02_2222, // DyeB 5, char
-    0x4479654e_01_12_5555, // DyeN 1, p_string
-    0x4479654e_02_12_5555, // DyeN 2, p_string
-    0x4479654e_03_12_5555, // DyeN 3, p_string
-    0x4479654e_04_12_5555, // DyeN 4, p_string
-    0x4479654e_05_12_2292, // DyeN 5, p_string
+    0x4479654e_01_12_5555, // DyeN 1, pString
+    0x4479654e_02_12_5555, // DyeN 2, pString
+    0x4479654e_03_12_5555, // DyeN 3, pString
+    0x4479654e_04_12_5555, // DyeN 4, pString
+    0x4479654e_05_12_2292, // DyeN 5, pString
     0x44796557_01_04_5555, // DyeW 1, short
     0x44796557_02_04_5555, // DyeW 2, short
     0x44796557_03_04_5555, // DyeW 3, short
     0x44796557_04_04_5555, // DyeW 4, short
     0x44796557_05_04_22a2, // DyeW 5, short
     0x45505674_01_05_5555, // EPVt 1, long
-    0x45564e54_01_12_5555, // EVNT 1, p_string
-    0x45564e54_02_12_5555, // EVNT 2, p_string
-    0x45564e54_03_12_5555, // EVNT 3, p_string
-    0x45564e54_04_12_5555, // EVNT 4, p_string
+    0x45564e54_01_12_5555, // EVNT 1, pString
+    0x45564e54_02_12_5555, // EVNT 2, pString
+    0x45564e54_03_12_5555, // EVNT 3, pString
+    0x45564e54_04_12_5555, // EVNT 4, pString
     0x46574f5f_01_22_4444, // FWO_ 1, char array
-    0x47547970_01_12_5555, // GTyp 1, p_string
-    0x48434647_01_13_0505, // HCFG 1, c_string
-    0x48434647_02_13_0505, // HCFG 2, c_string
-    0x48434647_03_13_0505, // HCFG 3, c_string
-    0x48434647_04_13_0505, // HCFG 4, c_string
+    0x47547970_01_12_5555, // GTyp 1, pString
+    0x48434647_01_13_0505, // HCFG 1, cString
+    0x48434647_02_13_0505, // HCFG 2, cString
+    0x48434647_03_13_0505, // HCFG 3, cString
+    0x48434647_04_13_0505, // HCFG 4, cString
     0x496e5363_01_05_5555, // InSc 1, long
     0x496e5674_01_05_5555, // InVt 1, long
     0x4c414e45_01_04_5555, // LANE 1, short
-    0x4c494d53_01_12_5555, // LIMS 1, p_string
+    0x4c494d53_01_12_5555, // LIMS 1, pString
     0x4c4e5444_01_04_5555, // LNTD 1, short
     0x4c737250_01_05_5555, // LsrP 1, long
-    0x4d43484e_01_12_5555, // MCHN 1, p_string
-    0x4d4f4446_01_12_5555, // MODF 1, p_string
+    0x4d43484e_01_12_5555, // MCHN 1, pString
+    0x4d4f4446_01_12_5555, // MODF 1, pString
     0x4d4f444c_01_42_5555, // MODL 1, char[4]
     0x4e415647_01_04_5555, // NAVG 1, short
     0x4e4c4e45_01_04_5555, // NLNE 1, short
@@ -106,22 +106,22 @@ pub(crate) const TABLE: [u64; 112] = [
     0x4f666653_81_ff_0222, // OffS 1-N, user
     0x4f767256_81_25_aaaa, // OvrV 1-N, long array
     0x4f76726c_81_25_aaaa, // Ovrl 1-N, long array
-    0x50414e4c_01_13_1111, // PANL 1, c_string
-    0x50444d46_01_12_4444, // PDMF 1, p_string
-    0x50524a54_01_13_8888, // PRJT 1, c_string
-    0x50524f4a_04_13_8888, // PROJ 4, c_string
+    0x50414e4c_01_13_1111, // PANL 1, cString
+    0x50444d46_01_12_4444, // PDMF 1, pString
+    0x50524a54_01_13_8888, // PRJT 1, cString
+    0x50524f4a_04_13_8888, // PROJ 4, cString
     0x50535a45_01_05_0105, // PSZE 1, long
-    0x50545950_01_13_0105, // PTYP 1, c_string
+    0x50545950_01_13_0105, // PTYP 1, cString
     0x50584c42_01_05_5555, // PXLB 1, long
-    0x5247436d_01_13_aaaa, // RGCm 1, c_string
-    0x52474e6d_01_13_5555, // RGNm 1, c_string
-    0x52474f77_01_13_0a0a, // RGOw 1, c_string
-    0x524d5856_01_13_5555, // RMXV 1, c_string
-    0x524d644e_01_13_5555, // RMdN 1, c_string
-    0x524d6456_01_13_5555, // RMdV 1, c_string
+    0x5247436d_01_13_aaaa, // RGCm 1, cString
+    0x52474e6d_01_13_5555, // RGNm 1, cString
+    0x52474f77_01_13_0a0a, // RGOw 1, cString
+    0x524d5856_01_13_5555, // RMXV 1, cString
+    0x524d644e_01_13_5555, // RMdN 1, cString
+    0x524d6456_01_13_5555, // RMdV 1, cString
     0x524d6458_01_22_5555, // RMdX 1, char array
-    0x5250724e_01_13_5555, // RPrN 1, c_string
-    0x52507256_01_13_5555, // RPrV 1, c_string
+    0x5250724e_01_13_5555, // RPrN 1, cString
+    0x52507256_01_13_5555, // RPrV 1, cString
     0x52554e44_01_0a_5555, // RUND 1, date
     0x52554e44_02_0a_5555, // RUND 2, date
     0x52554e44_03_0a_5555, // RUND 3, date
@@ -131,25 +131,25 @@ pub(crate) const TABLE: [u64; 112] = [
     0x52554e54_03_0b_5555, // RUNT 3, time
     0x52554e54_04_0b_5555, // RUNT 4, time
     0x52617465_01_ff_5555, // Rate 1, user
-    0x52756e4e_01_13_5555, // RunN 1, c_string
+    0x52756e4e_01_13_5555, // RunN 1, cString
     0x5343414e_01_05_5555, // SCAN 1, long
-    0x534d4544_01_12_5555, // SMED 1, p_string
-    0x534d4c74_01_12_5555, // SMLt 1, p_string
-    0x534d504c_01_12_4444, // SMPL 1, p_string
-    0x53504543_01_13_8888, // SPEC 1, c_string
-    0x53545950_01_13_1011, // STYP 1, c_string
-    0x53564552_01_12_5555, // SVER 1, p_string
-    0x53564552_03_12_5555, // SVER 3, p_string
-    0x53564552_04_12_1111, // SVER 4, p_string
+    0x534d4544_01_12_5555, // SMED 1, pString
+    0x534d4c74_01_12_5555, // SMLt 1, pString
+    0x534d504c_01_12_4444, // SMPL 1, pString
+    0x53504543_01_13_8888, // SPEC 1, cString
+    0x53545950_01_13_1011, // STYP 1, cString
+    0x53564552_01_12_5555, // SVER 1, pString
+    0x53564552_03_12_5555, // SVER 3, pString
+    0x53564552_04_12_1111, // SVER 4, pString
     0x53617464_01_25_aaaa, // Satd 1, long array
     0x5363616c_01_07_5555, // Scal 1, float
     0x5363616e_01_04_5555, // Scan 1, short
-    0x536e7053_01_12_2222, // SnpS 1, p_string
-    0x53704e6d_01_12_1111, // SpNm 1, p_string
-    0x53746446_01_12_1011, // StdF 1, p_string
-    0x54554245_01_12_5555, // TUBE 1, p_string
+    0x536e7053_01_12_2222, // SnpS 1, pString
+    0x53704e6d_01_12_1111, // SpNm 1, pString
+    0x53746446_01_12_1011, // StdF 1, pString
+    0x54554245_01_12_5555, // TUBE 1, pString
     0x546d7072_01_05_5555, // Tmpr 1, long
-    0x55736572_01_12_aaaa, // User 1, p_string
+    0x55736572_01_12_aaaa, // User 1, pString
 ];
 
 // The published type of this number.

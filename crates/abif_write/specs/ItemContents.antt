@@ -24,7 +24,7 @@ unfoldable pub contents_hold : ℕ → ℕ → List ℕ → Bool
 contents_hold code count bytes =
     pick (eqb code 10) (each_element (is_date_at bytes) count 0)  -- date
     (pick (eqb code 11) (each_element (is_time_at bytes) count 0)  -- time
-    (pick (eqb code 18) (is_pstring bytes)  -- p_string
-    (pick (eqb code 19) (is_cstring bytes)  -- c_string
+    (pick (eqb code 18) (is_pstring bytes)  -- pString
+    (pick (eqb code 19) (is_cstring bytes)  -- cString
     -- other types have no rule
     true)))

@@ -68,7 +68,7 @@ fn put_datas(
     out: &mut [u8],
 )
     requires accepted { Accepted (lent_records names numbers types counts starts lengths) buffer.now }
-    requires names_in_bounds { 128 + length (all_data (item_at (lent_records names numbers types counts starts lengths)) buffer.now (length names.now) 0) ≤ length
+    requires has_room { 128 + length (all_data (item_at (lent_records names numbers types counts starts lengths)) buffer.now (length names.now) 0) ≤ length
         out.old }
     ensures { out.new ≡ put out.old 128
         (all_data (item_at (lent_records names.entry numbers.entry types.entry counts.entry starts.entry lengths.entry)) buffer.now
@@ -97,8 +97,8 @@ fn put_entries(
     place: usize,
 )
     requires accepted { Accepted (lent_records names numbers types counts starts lengths) buffer.now }
-    requires names_in_bounds { place + 28 * length names.now ≤ length out.old }
-    requires names_bound { directory_place (item_at (lent_records names numbers types counts starts lengths)) (length names.now) < 0x80000000 }
+    requires has_room { place + 28 * length names.now ≤ length out.old }
+    requires place_fits { directory_place (item_at (lent_records names numbers types counts starts lengths)) (length names.now) < 0x80000000 }
     ensures { out.new ≡ put out.old place
         (entries (item_at (lent_records names.entry numbers.entry types.entry counts.entry starts.entry lengths.entry))
         buffer.now place (length names.now) 0 128) }
@@ -128,7 +128,7 @@ pub(crate) fn put_file(
     place: usize,
 )
     requires accepted { Accepted (lent_records names numbers types counts starts lengths) buffer.now }
-    requires names_len_bound { (length names.now ≤ 999) × (place ≡ directory_place (item_at (lent_records names numbers types counts starts lengths)) (length names.now))
+    requires directory_fits { (length names.now ≤ 999) × (place ≡ directory_place (item_at (lent_records names numbers types counts starts lengths)) (length names.now))
         × (place < 0x80000000) × (place + 28 * length names.now ≤ length out.old) }
     ensures { out.new ≡ put out.old 0
         (file (item_at (lent_records names.entry numbers.entry types.entry counts.entry starts.entry lengths.entry)) buffer.now

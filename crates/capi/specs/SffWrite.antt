@@ -24,10 +24,10 @@ as_added w (refused n e) = record { refusal = n; reads = w.reads; written = w.wr
 
 -- the four clips of a read
 abbrev pub clips_of : ℕ → ℕ → ℕ → ℕ → Clips
-clips_of qualityLeft qualityRight adapterLeft adapterRight =
+clips_of quality_left quality_right adapter_left adapter_right =
     record {
-      quality_left = qualityLeft;
-      quality_right = qualityRight;
-      adapter_left = adapterLeft;
-      adapter_right = adapterRight;
+      quality_left = quality_left;
+      quality_right = quality_right;
+      adapter_left = adapter_left;
+      adapter_right = adapter_right;
     }

@@ -4,7 +4,7 @@ ghost use Rattle.reading.specs.Check.{answer, map_answer};
 ghost use Rattle.reading.specs.Verdict.{verdict_of};
 ghost use Rattle.reading.specs.Lent.{filled};
 ghost use Rattle.reading.specs.Bulk.{records};
-ghost use Rattle.sff.specs.Header.{header as headerReading};
+ghost use Rattle.sff.specs.Header.{header as header_reading};
 ghost use Rattle.sff.specs.Answers.{answer_of_header_found, answer_of_flow};
 ghost use Rattle.sff.specs.Judge.{judging, extent_of};
 ghost use Rattle.sff.specs.Lookup.{read_reading};
@@ -61,7 +61,7 @@ fn as_header(o: header::HeaderFound) -> SffHeader
 // The fields of the common header.
 #[unsafe(no_mangle)]
 pub extern "C" fn jt_sff_header(s: &[u8]) -> SffHeader
-    ensures { result ≡ as_header (answer headerReading s.now) }
+    ensures { result ≡ as_header (answer header_reading s.now) }
 {
     as_header(header::read_fields(s))
 }

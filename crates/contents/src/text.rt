@@ -29,7 +29,7 @@ fn has_zero(l: &[u8]) -> bool
     found
 }
 
-// The bytes are those of a p_string.
+// The bytes are those of a pString.
 pub fn p_string_holds(bytes: &[u8]) -> bool
     ensures { result ≡ is_pstring bytes.now }
 {
@@ -40,7 +40,7 @@ pub fn p_string_holds(bytes: &[u8]) -> bool
     byte(bytes, 0) as usize == n - 1
 }
 
-// The bytes are those of a c_string.
+// The bytes are those of a cString.
 pub fn c_string_holds(bytes: &[u8]) -> bool
     ensures { result ≡ is_cstring bytes.now }
 {

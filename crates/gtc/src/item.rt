@@ -118,7 +118,7 @@ pub(crate) fn is_listed(id: u16) -> bool
 fn string_end(s: &[u8], p: usize) -> Ended
     requires { p < 0x8000000000000000 }
     ensures result_value { outcome_of_ended result ≡ run (string_end p) s.now }
-    ensures by_index { (e : ℕ) → outcome_of_ended result ≡ passed e → (p < e) × (e ≤ p + 256) × (e ≤ length s.now) }
+    ensures end_in_bounds { (e : ℕ) → outcome_of_ended result ≡ passed e → (p < e) × (e ≤ p + 256) × (e ≤ length s.now) }
 {
     let first = p + 1;
     if s.len() < first {
@@ -135,7 +135,7 @@ fn string_end(s: &[u8], p: usize) -> Ended
 fn scanner_rest(s: &[u8], green: usize) -> Ended
     requires { green ≤ length s.now }
     ensures result_value { outcome_of_ended result ≡ run (scanner_rest green) s.now }
-    ensures by_index { (e : ℕ) → outcome_of_ended result ≡ passed e → (green < e) × (e ≤ green + 600) × (e ≤ length s.now) }
+    ensures end_in_bounds { (e : ℕ) → outcome_of_ended result ≡ passed e → (green < e) × (e ≤ green + 600) × (e ≤ length s.now) }
 {
     let red = green + 4;
     if s.len() < red {
@@ -156,7 +156,7 @@ fn scanner_rest(s: &[u8], green: usize) -> Ended
 fn scanner_end(s: &[u8], p: usize) -> Ended
     requires { p < 0x8000000000000000 }
     ensures result_value { outcome_of_ended result ≡ run (scanner_end p) s.now }
-    ensures by_index { (e : ℕ) → outcome_of_ended result ≡ passed e → (p < e) × (e ≤ p + 1000) × (e ≤ length s.now) }
+    ensures end_in_bounds { (e : ℕ) → outcome_of_ended result ≡ passed e → (p < e) × (e ≤ p + 1000) × (e ≤ length s.now) }
 {
     match string_end(s, p) {
         Ended::Failed(t) => Ended::Failed(t),

@@ -16,7 +16,7 @@ read_header_length start header_length = unsigned_field 2 start header_length
 
 -- header length not (16 + name length) rounded up to 8: 9
 unfoldable pub read_length_check : ℕ → ℕ → ℕ → Check (Unit {0})
-read_length_check start header_length nameLength = must (read_header_length start header_length) (EqualTo (padded (read_front_length + nameLength))) 9
+read_length_check start header_length name_length = must (read_header_length start header_length) (EqualTo (padded (read_front_length + name_length))) 9
 
 -- the data are 2 x flows + 3 x bases bytes, rounded up to 8
 abbrev pub data_length : ℕ → ℕ → ℕ

@@ -86,7 +86,7 @@ pub(crate) fn lengths_hold(
 
 // The header fields of a read that starts at place p.
 pub(crate) fn header_with(p: usize, name: usize, bases: usize, c: Clips) -> ReadHeader
-    requires name_bound { (read_header_size name ≤ 65535) × (bases ≤ 0xffffffff) }
+    requires lengths_fit { (read_header_size name ≤ 65535) × (bases ≤ 0xffffffff) }
     requires fitting_clips { FittingClips c }
     ensures { result ≡ header_with p name bases c }
 {
@@ -161,9 +161,9 @@ pub(crate) fn put_read(
     qualities: &[u8],
     clips: Clips,
 )
-    requires name_len_bound { (length name.now ≤ 65535) × (length flows.now ≤ 65535) × (length letters.now ≤ 0xffffffff)
+    requires lengths_fit { (length name.now ≤ 65535) × (length flows.now ≤ 65535) × (length letters.now ≤ 0xffffffff)
         × (length steps.now ≡ length letters.now) × (length qualities.now ≡ length letters.now) }
-    requires clips_in_bounds { p + length (read_bytes d (lent_read name flows steps letters qualities clips)) ≤ length out.old }
+    requires has_room { p + length (read_bytes d (lent_read name flows steps letters qualities clips)) ≤ length out.old }
     ensures { out.new
         ≡ put out.old p (read_bytes d (lent_read name.entry flows.entry steps.entry letters.entry qualities.entry clips)) }
 {

@@ -73,7 +73,7 @@ fn add_fitting(
     clips: Clips,
     out: &mut [u8],
 ) -> Advanced
-    requires written_lt_reads { w.written < w.reads }
+    requires reads_left { w.written < w.reads }
     requires fitting { Fitting w.flows (lent_read name flows steps letters qualities clips) }
     ensures result_value { answer_of_advanced result ≡ map_answer behind (answer
         (adding_fit w (lent_read name.entry flows.entry steps.entry letters.entry qualities.entry clips) (length out.old)) []) }

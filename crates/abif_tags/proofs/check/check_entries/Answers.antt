@@ -21,8 +21,8 @@ returns-then-out-m c =
     let g = c.args in
     let w = no_room g.profile g.h.now g.p g.n _ _ c.sort.ensures _ c.tell-m.ensures.value (length g.out.now) c.if-out-m.true in
     record {
-      by_index = λ l. ap (map_answer length) (w l);
-      by_index_2 = λ l. ap (λ (x : Answer (List Finding)). filled (map_answer finding_numbers x) g.out.now) (w l);
+      result_value = λ l. ap (map_answer length) (w l);
+      out_after = λ l. ap (λ (x : Answer (List Finding)). filled (map_answer finding_numbers x) g.out.now) (w l);
     }
 
 pub returns : goal.returns
@@ -30,6 +30,6 @@ returns c =
     let g = c.args in
     let t = c.tell-m.ensures in
     record {
-      by_index = counted g.profile g.h.now g.p g.n _ _ c.sort.ensures _ t.value (length g.out.now) c.if-out-m.false;
-      by_index_2 = copied g.profile g.h.now g.p g.n _ _ c.sort.ensures _ t.value (length g.out.now) c.if-out-m.false _ _ g.out.now _ t.result_in_bounds.1 c.copy.ensures;
+      result_value = counted g.profile g.h.now g.p g.n _ _ c.sort.ensures _ t.value (length g.out.now) c.if-out-m.false;
+      out_after = copied g.profile g.h.now g.p g.n _ _ c.sort.ensures _ t.value (length g.out.now) c.if-out-m.false _ _ g.out.now _ t.out_after.1 c.copy.ensures;
     }

@@ -56,6 +56,6 @@ returns-in-At c =
     let w = after_opened (reporting g.profile (length g.out.now)) g.s.now _ _ (sym c.open.ensures ∙ ap answer_of_opened c.in-At.is) ∙ known_profile g.profile (length g.out.now) g.s.now (one_of_eight g.profile (omega arith) (omega arith)) in
     let e = c.check_entries.ensures in
     record {
-      result_value = e.by_index g.s.now ∙ ap (map_answer length) w;
-      out_after = e.by_index_2 g.s.now ∙ ap (λ (x : Answer (List Finding)). filled (map_answer finding_numbers x) g.out.now) w;
+      result_value = e.result_value g.s.now ∙ ap (map_answer length) w;
+      out_after = e.out_after g.s.now ∙ ap (λ (x : Answer (List Finding)). filled (map_answer finding_numbers x) g.out.now) w;
     }

@@ -15,7 +15,7 @@ overflow_cast-x c =
     let g = c.args in
     let h = c.loop-i in
     let b = taken_within (item_at (records g.names.now g.numbers.now g.types.now g.counts.now g.starts.now g.lengths.now)) _ h.i h.x h.invariant.1 h.invariant.0.up_to in
-    omega (arith, c.requires.names_bound)
+    omega (arith, c.requires.place_fits)
 
 pub put_entry-requires : goal.put_entry-requires
 put_entry-requires c =
@@ -31,7 +31,7 @@ overflow_add-x c =
     let h = c.loop-i in
     let a = item_apart (item_at (records g.names.now g.numbers.now g.types.now g.counts.now g.starts.now g.lengths.now)) g.buffer.now h.i _ c.item_at-d.ensures _ c.size_outside-x.ensures in
     let b = taken_within (item_at (records g.names.now g.numbers.now g.types.now g.counts.now g.starts.now g.lengths.now)) _ (h.i + 1) _ (taken_next (item_at (records g.names.now g.numbers.now g.types.now g.counts.now g.starts.now g.lengths.now)) _ h.i h.x h.invariant.1 _ a) (omega arith) in
-    omega (arith, c.requires.names_bound)
+    omega (arith, c.requires.place_fits)
 
 pub loop-i-preserved : goal.loop-i-preserved
 loop-i-preserved c =
@@ -39,10 +39,10 @@ loop-i-preserved c =
     let h = c.loop-i in
     let a = item_apart (item_at (records g.names.now g.numbers.now g.types.now g.counts.now g.starts.now g.lengths.now)) g.buffer.now h.i _ c.item_at-d.ensures _ c.size_outside-x.ensures in
     let p = entry_placed _ _ _ _ _ c.entry_for-e.ensures in
-    (entries_next (item_at (records g.names.now g.numbers.now g.types.now g.counts.now g.starts.now g.lengths.now)) g.buffer.now _ _ h.x _ h.i g.place h.invariant.0 c.loop-i-test.true c.requires.names_in_bounds _ (item_entry (item_at (records g.names.now g.numbers.now g.types.now g.counts.now g.starts.now g.lengths.now)) _ h.i _ c.item_at-d.ensures _ _ _ c.entry_for-e.ensures) _ a _ (rw (← p) c.put_entry.ensures), taken_next (item_at (records g.names.now g.numbers.now g.types.now g.counts.now g.starts.now g.lengths.now)) _ h.i h.x h.invariant.1 _ a)
+    (entries_next (item_at (records g.names.now g.numbers.now g.types.now g.counts.now g.starts.now g.lengths.now)) g.buffer.now _ _ h.x _ h.i g.place h.invariant.0 c.loop-i-test.true c.requires.has_room _ (item_entry (item_at (records g.names.now g.numbers.now g.types.now g.counts.now g.starts.now g.lengths.now)) _ h.i _ c.item_at-d.ensures _ _ _ c.entry_for-e.ensures) _ a _ (rw (← p) c.put_entry.ensures), taken_next (item_at (records g.names.now g.numbers.now g.types.now g.counts.now g.starts.now g.lengths.now)) _ h.i h.x h.invariant.1 _ a)
 
 pub returns : goal.returns
 returns c =
     let g = c.args in
     let h = c.loop-i in
-    entries_end (item_at (records g.names.now g.numbers.now g.types.now g.counts.now g.starts.now g.lengths.now)) g.buffer.now _ _ h.x _ h.i g.place h.invariant.0 c.loop-i-test.false c.requires.names_in_bounds
+    entries_end (item_at (records g.names.now g.numbers.now g.types.now g.counts.now g.starts.now g.lengths.now)) g.buffer.now _ _ h.x _ h.i g.place h.invariant.0 c.loop-i-test.false c.requires.has_room

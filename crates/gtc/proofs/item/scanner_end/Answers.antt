@@ -24,5 +24,5 @@ unfolding scanner_end
 returns-in-At-clause-result_value c =
     let g = c.args in
     let u = ap outcome_of_ended c.in-At.is in
-    let b = c.string_end.ensures.by_index _ u in
+    let b = c.string_end.ensures.end_in_bounds _ u in
     c.scanner_rest.ensures.result_value ∙ bind_passed _ scanner_rest g.s.now _ (sym c.string_end.ensures.result_value ∙ u)

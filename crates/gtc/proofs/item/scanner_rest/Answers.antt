@@ -31,5 +31,5 @@ pub returns-in-At-clause-result_value : goal.returns-in-At-clause-result_value
 returns-in-At-clause-result_value c =
     let g = c.args in
     let u = ap outcome_of_ended c.in-At.is in
-    let b = c.string_end.ensures.by_index _ u in
+    let b = c.string_end.ensures.end_in_bounds _ u in
     c.string_end-in-At.ensures.result_value ∙ bind_passed _ string_end g.s.now _ (sym c.string_end.ensures.result_value ∙ u) ∙ rest_on g.s.now g.green (omega arith)

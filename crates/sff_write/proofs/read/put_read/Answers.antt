@@ -10,21 +10,21 @@ pub put_header-requires : goal.put_header-requires
 put_header-requires c =
     let g = c.args in
     let r = given_read g.name.now g.flows.now g.steps.now g.letters.now g.qualities.now g.clips in
-    let k = length_read g.d r c.requires.name_len_bound.3 c.requires.name_len_bound.4 in
+    let k = length_read g.d r c.requires.lengths_fit.3 c.requires.lengths_fit.4 in
     let y = size_is (16 + length g.name.now) _ c.padding_behind-front.ensures.0 in
-    omega (arith, c.requires.clips_in_bounds)
+    omega (arith, c.requires.has_room)
 
 pub put_bases-requires : goal.put_bases-requires
 put_bases-requires c =
     let g = c.args in
     let r = given_read g.name.now g.flows.now g.steps.now g.letters.now g.qualities.now g.clips in
-    let k = length_read g.d r c.requires.name_len_bound.3 c.requires.name_len_bound.4 in
+    let k = length_read g.d r c.requires.lengths_fit.3 c.requires.lengths_fit.4 in
     let y = size_is (16 + length g.name.now) _ c.padding_behind-front.ensures.0 in
     let z = size_is (2 * length g.flows.now + 3 * length g.letters.now) _ c.padding_behind-behind.ensures.0 in
-    omega (arith, c.requires.clips_in_bounds, c.requires.name_len_bound)
+    omega (arith, c.requires.has_room, c.requires.lengths_fit)
 
 pub returns : goal.returns
 returns c =
     let g = c.args in
     let r = given_read g.name.now g.flows.now g.steps.now g.letters.now g.qualities.now g.clips in
-    read_put _ _ _ g.p _ _ g.d r c.padding_behind-front.ensures.0 c.padding_behind-behind.ensures.0 c.put_header.ensures c.put_words.ensures c.put_bases.ensures c.requires.clips_in_bounds
+    read_put _ _ _ g.p _ _ g.d r c.padding_behind-front.ensures.0 c.padding_behind-behind.ensures.0 c.put_header.ensures c.put_words.ensures c.put_bases.ensures c.requires.has_room

@@ -32,8 +32,8 @@ returns-then-out-size-2 c =
     let t = told_refused a g.w.at g.out.now 13 (fit_room g.w r _ _ q c.if-hold.true (omega arith)) in
     record { result_value = t.0; out_after = t.1 }
 
-pub put_read-requires-clause-name_len_bound : goal.put_read-requires-clause-name_len_bound
-put_read-requires-clause-name_len_bound c =
+pub put_read-requires-clause-lengths_fit : goal.put_read-requires-clause-lengths_fit
+put_read-requires-clause-lengths_fit c =
     let g = c.args in
     let r = given_read g.name.now g.flows.now g.steps.now g.letters.now g.qualities.now g.clips in
     let e = c.header_with-d.ensures in
@@ -44,8 +44,8 @@ put_read-requires-clause-name_len_bound c =
     let n = padded_bounds (16 + length g.name.now) in
     (omega arith, omega arith, k.bases_fit, k.steps_agree, k.qualities_agree)
 
-pub put_read-requires-clause-clips_in_bounds : goal.put_read-requires-clause-clips_in_bounds
-put_read-requires-clause-clips_in_bounds c =
+pub put_read-requires-clause-has_room : goal.put_read-requires-clause-has_room
+put_read-requires-clause-has_room c =
     let g = c.args in
     let r = given_read g.name.now g.flows.now g.steps.now g.letters.now g.qualities.now g.clips in
     let e = c.header_with-d.ensures in
