@@ -1,5 +1,5 @@
 -- What private functions ask of their callers. No public call's contract cites this.
-use Rattle.std.specs.Prelude.{ℕ, zero, suc, ◌+◌, ◌-◌, ◌*◌, ◌/◌, ◌%◌, ◌^◌, ◌≤◌, ◌<◌, ◌≡◌, List, [], ◌∷◌, ◌++◌, map, Bool, true, false, leb, eqb, pos, length, get_or, set, drop}
+use Rattle.std.specs.Prelude.{ℕ, zero, suc, ◌+◌, ◌-◌, ◌*◌, ◌/◌, ◌%◌, ◌^◌, ◌≤◌, ◌<◌, ◌≡◌, List, [], ◌∷◌, map, Bool, true, false, leb, eqb, pos, get_or, set, drop}
 use Rattle.std.specs.Int.Signed.{mag}
 use Rattle.reading.specs.Choice.{pick}
 use Rattle.abif.specs.declared.tag.Tag.{Tag}

@@ -1,5 +1,5 @@
 -- ABIF: the tags that each instrument and software writes: Tables 1 to 8 of document 000, as one table.
-use Rattle.std.specs.Prelude.{ℕ, ◌-◌, List, [], ◌∷◌, Bool, true, false, not, leb, eqb, pos, length, get_or}
+use Rattle.std.specs.Prelude.{ℕ, ◌-◌, List, [], ◌∷◌, Bool, true, false, not, leb, eqb, pos, get_or}
 use Rattle.std.specs.Int.Signed.{le_z}
 use Rattle.reading.specs.Choice.{pick, among}
 use Rattle.reading.specs.Entries.{first_with}

@@ -1,7 +1,7 @@
 -- ABIF: the file that is made of the items.
 use Rattle.std.specs.Prelude.{ℕ, zero, suc, ◌+◌, ◌*◌, List, [], ◌++◌, leb, length}
 use Rattle.reading.specs.Choice.{pick}
-use Rattle.reading.specs.Check.{Check, done, provided, ◌>>=◌, ◌>>◌}
+use Rattle.reading.specs.Check.{Check, done, provided, ◌>>◌}
 use Rattle.abif_write.specs.declared.item.Item.{Item}
 use Rattle.abif_write.specs.Item.{bytes_of}
 use Rattle.abif_write.specs.Entry.{entry_bytes, entry_for, header_bytes}

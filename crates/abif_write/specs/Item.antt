@@ -5,7 +5,7 @@ use Rattle.std.specs.Borrow.{Bor}
 use Rattle.reading.specs.Choice.{pick}
 use Rattle.reading.specs.Number.{negative, bits}
 use Rattle.reading.specs.Part.{bytes_at}
-use Rattle.reading.specs.Check.{Check, done, provided, ◌>>=◌, ◌>>◌}
+use Rattle.reading.specs.Check.{Check, done, provided, ◌>>◌}
 use Rattle.abif.specs.declared.entry.ElementType.{ElementType}
 use Rattle.abif.specs.declared.entry.ElementType.TheVariants.{Listed, Raw, Unknown}
 use Rattle.abif.specs.Entry.{type_of}

@@ -1,6 +1,6 @@
 -- ABIF: the writer, as document 01 says it.
 use Rattle.std.specs.Prelude.{ℕ, List, length}
-use Rattle.reading.specs.Check.{Check, provided, ◌>>=◌, ◌>>◌}
+use Rattle.reading.specs.Check.{Check, provided, ◌>>◌}
 use Rattle.abif_write.specs.Item.{Records, item_at, same_lengths, items_check}
 use Rattle.abif_write.specs.File.{file_check}
 

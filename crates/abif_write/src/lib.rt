@@ -1,5 +1,6 @@
 // ABIF: a file written from lent item records and their data.
 #![tactic(auto)]
+
 pub(crate) mod entry;
 pub(crate) mod file;
 pub(crate) mod item;

@@ -3,7 +3,7 @@ use Rattle.std.specs.Prelude.{ℕ, zero, suc, ◌+◌, List, Bool, true, false, 
 use Rattle.reading.specs.Choice.{pick}
 use Rattle.reading.specs.Number.{be}
 use Rattle.reading.specs.declared.check.Rule.TheVariants.{AtLeast}
-use Rattle.reading.specs.Check.{Check, unsigned_field, done, must, provided, ◌>>=◌, ◌>>◌}
+use Rattle.reading.specs.Check.{Check, unsigned_field, done, must, provided, ◌>>◌}
 
 -- the flow step at place p
 abbrev pub flow_step : List ℕ → ℕ → ℕ

@@ -1,7 +1,7 @@
 -- GTC: what a genotype code means (Table 4).
 use Rattle.std.specs.Prelude.{ℕ, zero, suc, ◌+◌, ◌-◌, ◌*◌, ◌/◌, List, [], ◌∷◌, ◌++◌, replicate, leb, eqb}
 use Rattle.reading.specs.Choice.{pick}
-use Rattle.reading.specs.Check.{Check, done, provided, ◌>>=◌, ◌>>◌}
+use Rattle.reading.specs.Check.{Check, done, provided, ◌>>◌}
 use Rattle.gtc_records.specs.declared.genotype.Genotype.{Genotype}
 use Rattle.gtc_records.specs.declared.genotype.Genotype.TheVariants.{NoCall, Null, Alleles}
 

@@ -1,5 +1,6 @@
 // GTC: SNP records, transformations and normalising, of a file in lent bytes.
 #![tactic(auto)]
+
 pub mod genotype;
 pub mod normalise;
 pub mod snp;

@@ -18,7 +18,7 @@ use Rattle.sff.specs.Header.{header}
 use Rattle.sff.specs.Read.{framing}
 use Rattle.sff_fields.specs.Read.{data_start, read_end, steps_start, letters_start}
 use Rattle.sff.specs.Walk.{first_boundary, Passage, walk}
-use Rattle.sff_fields.specs.Clips.{clips_check, first_base, last_base, insert_from, insert}
+use Rattle.sff_fields.specs.Clips.{clips_check, first_base, last_base, insert_from}
 use Rattle.contents.specs.Steps.{steps_check}
 use Rattle.sff.specs.Lookup.{read_from, read_reading}
 use Rattle.sff_fields.specs.Parts.{read_of}

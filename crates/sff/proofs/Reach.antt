@@ -5,7 +5,7 @@ use mathlib.Core.List.{List}
 use native.Mathlib.Omega.{arith}
 use lib.ListN.{length, take, length-take}
 use Rattle.reading.specs.Bulk.{left_from, fitting}
-use Rattle.reading.specs.Check.{Check, ok, answer, holds, ◌>>=◌, ◌>>◌}
+use Rattle.reading.specs.Check.{Check, ok, answer, holds, ◌>>=◌}
 use Rattle.reading.proofs.Needed.{reach}
 use Rattle.reading.proofs.Cut.{answer_same}
 use Rattle.reading.proofs.Steps.{reach_done, reach_must, reach_need, reach_at}

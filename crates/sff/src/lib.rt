@@ -1,5 +1,6 @@
 // SFF files over lent bytes: judging, the header, and reads by number, one or many.
 #![tactic(auto)]
+
 pub mod flow;
 pub mod header;
 pub mod judge;

@@ -3,7 +3,7 @@ use Rattle.std.specs.Prelude.{ℕ, ◌+◌, ◌-◌, max, min, leb, eqb}
 use Rattle.reading.specs.Choice.{pick}
 use Rattle.reading.specs.declared.check.Field.{Field}
 use Rattle.reading.specs.declared.check.Rule.TheVariants.{AtMost}
-use Rattle.reading.specs.Check.{Check, unsigned_field, must, ◌>>=◌, ◌>>◌}
+use Rattle.reading.specs.Check.{Check, unsigned_field, must, ◌>>◌}
 use Rattle.reading.specs.Part.{Span}
 use Rattle.sff_fields.specs.declared.read.ReadHeader.{ReadHeader}
 use Rattle.sff_fields.specs.Read.{letters_start}

@@ -1,6 +1,6 @@
 -- SFF: the checks of a read's contents, which the reader and the writer make.
 use Rattle.std.specs.Prelude.{ℕ, List, length}
-use Rattle.reading.specs.Check.{Check, ◌>>=◌, ◌>>◌}
+use Rattle.reading.specs.Check.{Check, ◌>>◌}
 use Rattle.contents.specs.Steps.{steps_check}
 use Rattle.sff_fields.specs.declared.read.ReadHeader.{ReadHeader}
 use Rattle.sff_fields.specs.Clips.{clips_check}

@@ -3,7 +3,7 @@ use Rattle.std.specs.Prelude.{ℕ, ◌+◌, Bool, not, eqb}
 use Rattle.reading.specs.Choice.{pick}
 use Rattle.reading.specs.declared.check.Field.{Field}
 use Rattle.reading.specs.declared.check.Rule.TheVariants.{Exactly, EqualTo, Other}
-use Rattle.reading.specs.Check.{Check, unsigned_field, must, ◌>>=◌, ◌>>◌}
+use Rattle.reading.specs.Check.{Check, unsigned_field, must, ◌>>◌}
 use Rattle.sff_fields.specs.declared.header.Header.{Header}
 use Rattle.sff_fields.specs.Padding.{padded}
 

@@ -1,7 +1,7 @@
 -- SFF: a read that the writer is given: its checks, and its bytes.
 use Rattle.std.specs.Prelude.{ℕ, ◌+◌, ◌*◌, List, ◌++◌, leb, eqb, length, replicate}
 use Rattle.std.specs.Borrow.{Bor}
-use Rattle.reading.specs.Check.{Check, provided, ◌>>=◌, ◌>>◌}
+use Rattle.reading.specs.Check.{Check, provided, ◌>>◌}
 use Rattle.sff_fields.specs.declared.read.ReadHeader.{ReadHeader}
 use Rattle.sff_fields.specs.Padding.{padding, padded}
 use Rattle.sff_fields.specs.Read.{read_front_length}

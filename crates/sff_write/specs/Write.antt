@@ -1,6 +1,6 @@
 -- SFF: the writer's calls. Each is a tree of checks in document 01's order, run on no bytes.
 use Rattle.std.specs.Prelude.{ℕ, ◌+◌, List, leb, ltb, eqb, length}
-use Rattle.reading.specs.Check.{Check, Answer, ok, refused, done, provided, ◌>>=◌, ◌>>◌}
+use Rattle.reading.specs.Check.{Check, Answer, ok, refused, done, provided, ◌>>◌}
 use Rattle.sff_fields.specs.Contents.{contents_check}
 use Rattle.writing.specs.Put.{put}
 use Rattle.sff_write.specs.declared.write.Writer.{Writer}

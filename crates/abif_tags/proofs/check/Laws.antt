@@ -1,7 +1,7 @@
 -- The check of a file's tags, from the answers of its parts.
 use Prim.Native.Nat.{ℕ, suc, ◌+◌, ◌*◌, ◌≤◌, ◌<◌}
 use mathlib.Core.Path.{◌≡◌, sym, ◌∙◌, ap}
-use mathlib.Core.List.{List, [], ◌∷◌, ◌++◌, map}
+use mathlib.Core.List.{List, ◌∷◌, ◌++◌}
 use mathlib.Core.Bool.{true, false}
 use native.Mathlib.Omega.{arith}
 use lib.IntN.{ℤ, pos}
@@ -15,7 +15,6 @@ use Rattle.reading.proofs.Steps.{answer_bind, answer_must, answer_done, answer_a
 use Rattle.reading.proofs.Passed.{bind_refused, bind_answered}
 use Rattle.abif.specs.Directory.{Directory, directory}
 use Rattle.abif.specs.Judge.{judging}
-use Rattle.abif_tags.specs.Table.{table, row_in}
 use Rattle.abif_tags.specs.Order.{in_tag_order}
 use Rattle.abif_tags.specs.Report.{Finding, finding_numbers, report, reporting, checking_whole, checking_tags}
 use Rattle.abif_tags.specs.Private.{left}

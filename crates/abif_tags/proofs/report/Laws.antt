@@ -2,16 +2,15 @@
 use Prim.Native.Nat.{ℕ, zero, suc, ◌+◌, ◌*◌, ◌≤◌, ◌<◌}
 use mathlib.Core.Path.{◌≡◌, refl, sym, ◌∙◌, ap}
 use mathlib.Core.List.{List, [], ◌∷◌, ◌++◌, map, append_assoc, append-nil}
-use mathlib.Core.Bool.{Bool, true, false}
+use mathlib.Core.Bool.{true, false}
 use native.Mathlib.Omega.{arith}
 use lib.IntN.{ℤ, pos}
-use lib.ListN.{length, get_or, take, drop, set, length-append, length-take, drop_of_length-le, take-append-drop, get_or-map, length-map}
+use lib.ListN.{length, get_or, take, drop, set, length-append, drop_of_length-le, take-append-drop, get_or-map}
 use lib.Seq.{drop-cons, drop-drop, sets, sets-eq, length-sets, drop_at, length-take-le}
 use borrow.Author.Tests.{lt-ltb, le-ltb}
-use Rattle.reading.specs.Choice.{pick}
 use Rattle.reading.proofs.Fill.{front_sets}
 use Rattle.abif.specs.declared.tag.Tag.{Tag}
-use Rattle.abif.specs.Tag.{tag_of, tag_below}
+use Rattle.abif.specs.Tag.{tag_below}
 use Rattle.abif.specs.Entry.{entry_of}
 use Rattle.abif_tags.specs.declared.table.Row.{Row}
 use Rattle.abif_tags.specs.Table.{table, no_row, row_in, row_at, row_for, is_required, agrees}

@@ -7,7 +7,7 @@ use native.Mathlib.Omega.{arith}
 use lib.Dec.{leb, ltb, eqb}
 use lib.IntN.{pos}
 use lib.Signed.{lt_z, le_z}
-use lib.ListN.{length, get_or, get_or-map}
+use lib.ListN.{get_or, get_or-map}
 use borrow.Author.Tests.{ltb-true, eqb-true, leb-true, leb-false, ltb-false, eqb-false, lt-ltb, le-leb, lt-leb, ne_eqb}
 use Rattle.reading.specs.Choice.{pick, is_number_of}
 use Rattle.reading.proofs.Entries.{first_is, first_none}
@@ -19,7 +19,7 @@ use Rattle.abif_tags.specs.declared.table.Row.{Row}
 use Rattle.abif_tags.specs.declared.table.Presence.{Presence}
 use Rattle.abif_tags.specs.Table.{TableRow, table, no_row, row_in, row_at, is_there, same_tag, stands_for, stands_at, row_for}
 use Rattle.abif_tags.specs.Private.{packed, packed_table, published_of, presence_of, unpacked, Rising, Parted, name_reached}
-use Rattle.abif_tags.proofs.Rows.{every, every_at, pairs, pairs_at}
+use Rattle.abif_tags.proofs.Rows.{every_at, pairs_at}
 
 -- a number that is none of three is past them
 three_past : (p k : ℕ) → k ≤ p → (p ≡ k → ⊥) → (p ≡ k + 1 → ⊥) → (p ≡ k + 2 → ⊥) → k + 3 ≤ p

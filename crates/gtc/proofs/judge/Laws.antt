@@ -8,7 +8,6 @@ use lib.ListN.{length}
 use Rattle.reading.specs.declared.check.Test.{Test}
 use Rattle.reading.specs.declared.check.Rule.TheVariants.{Other}
 use Rattle.reading.specs.declared.check.Explanation.{Explanation}
-use Rattle.reading.specs.declared.check.Explanation.TheVariants as Explanation
 use Rattle.reading.specs.Choice.{pick}
 use Rattle.reading.specs.Number.{le}
 use Rattle.reading.specs.Check.{passed, failed, short, ok, refused, run, answer, holds}
@@ -25,7 +24,6 @@ use Rattle.gtc.specs.declared.item.Stored.{Stored}
 use Rattle.gtc.specs.declared.item.Listing.{Listing}
 use Rattle.gtc.specs.declared.item.Listing.TheVariants.{Listed}
 use Rattle.gtc.specs.declared.item.ItemRead.{ItemRead}
-use Rattle.gtc.specs.declared.item.ItemRead.TheVariants as ItemRead
 use Rattle.reading.specs.declared.item.ItemData.{ItemData}
 use Rattle.gtc.specs.Table.{table_end, place_of_entry}
 use Rattle.gtc.specs.Entry.{entry_of, id_field}

@@ -18,8 +18,6 @@ use Rattle.reading.proofs.Parts.{part_there}
 use Rattle.sff_fields.specs.declared.header.Header.{Header}
 use Rattle.sff_fields.specs.declared.read.ReadHeader.{ReadHeader}
 use Rattle.sff.specs.declared.walk.Boundary.{Boundary}
-use Rattle.sff.specs.declared.walk.Skipped.TheVariants as skip
-use Rattle.sff.specs.declared.walk.Walked.TheVariants as walked
 use Rattle.sff_fields.specs.declared.parts.Read.{Read}
 use Rattle.sff_fields.specs.declared.parts.ReadPart.{ReadPart}
 use Rattle.sff_fields.specs.declared.parts.ReadPart.TheVariants.{Name, Flows, Steps, Letters, Qualities, Insert}

@@ -1,7 +1,6 @@
 use mir.Syntax.{w16}
 use Rattle.reading.proofs.Signs.{field_is}
 use Rattle.abif_elements.proofs.element.Laws.{date_good, date_bad}
-use borrow.Author.Rules.{rules}
 use Rattle.abif_elements.proofs.element.date_at.Goals as goal
 
 pub returns-then-date_holds : goal.returns-then-date_holds

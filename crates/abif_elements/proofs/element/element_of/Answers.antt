@@ -1,5 +1,4 @@
 use mathlib.Core.Path.{◌∙◌, sym, ap}
-use borrow.Author.Rules.{rules}
 use Rattle.abif_elements.specs.Element.{is_listed}
 use Rattle.abif_elements.proofs.element.Laws.{of_raw}
 use Rattle.abif_elements.proofs.element.element_of.Goals as goal

@@ -3,7 +3,6 @@ use mathlib.Core.Bool.{true}
 use native.Mathlib.Omega.{arith}
 use lib.ListN.{length-take}
 use borrow.Author.Tests.{le-leb, lt-leb}
-use borrow.Author.Rules.{rules}
 use Rattle.reading.specs.Choice.{is_number_of}
 use Rattle.abif_elements.proofs.element.Laws.{inside, of_none, of_value}
 use Rattle.abif_elements.proofs.element.listed_element.Goals as goal

@@ -1,5 +1,4 @@
 use Rattle.abif_elements.proofs.element.Laws.{time_good, time_bad}
-use borrow.Author.Rules.{rules}
 use Rattle.abif_elements.proofs.element.time_at.Goals as goal
 
 pub returns-then-time_holds : goal.returns-then-time_holds

@@ -5,7 +5,7 @@ use mir.Syntax.{w8, w16, w32, w64}
 use mir.Facts.{to_z_pos}
 use borrow.Author.Rules.{rules}
 use Rattle.reading.specs.Number.{signed}
-use Rattle.reading.proofs.Signs.{widened_fits, widened}
+use Rattle.reading.proofs.Signs.{widened}
 use Rattle.reading.proofs.Width.{be_part}
 use Rattle.abif.specs.Entry.{type_of}
 use Rattle.abif_elements.proofs.element.Laws.{whole_one, whole_char, whole_word, whole_short, whole_long, whole_byte}

@@ -1,13 +1,7 @@
 use Prim.Native.Nat.{◌+◌, ◌-◌, ◌*◌, ◌≤◌}
-use mathlib.Core.Path.{◌≡◌, refl}
 use mathlib.Core.List.{◌++◌}
-use native.Mathlib.Omega.{arith}
 use lib.ListN.{length, drop}
-use mir.Syntax.{w64}
-use mir.Val.{to_z, of_z}
-use borrow.Author.Rules.{rules}
-use Rattle.reading.proofs.Fill.{Filling, fill_start, fill_next, fill_end}
-use Rattle.abif_elements.proofs.numbers.Laws.{next_place, first_place}
+use Rattle.reading.proofs.Fill.{Filling}
 use Rattle.abif_elements.specs.Numbers.{wholes_at}
 use Rattle.abif_elements.proofs.numbers.copy.Given as goal
 

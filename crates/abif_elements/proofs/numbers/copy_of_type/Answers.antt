@@ -1,5 +1,4 @@
 use mathlib.Core.Path.{◌≡◌, refl, ◌∙◌}
-use borrow.Author.Rules.{rules}
 use Rattle.abif.specs.Entry.{type_of}
 use Rattle.abif_elements.proofs.numbers.copy_of_type.Goals as goal
 

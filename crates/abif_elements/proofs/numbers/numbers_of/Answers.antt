@@ -4,42 +4,37 @@ use mathlib.Core.Bool.{true}
 use native.Mathlib.Omega.{arith}
 use lib.ListN.{length, length-take}
 use borrow.Author.Tests.{le-leb, lt-leb}
-use borrow.Author.Rules.{rules}
 use Rattle.reading.specs.Choice.{is_number_of}
 use Rattle.abif_elements.proofs.numbers.Laws.{whole_listed, last_place, of_copied, of_other, of_none, of_little}
 use Rattle.abif_elements.proofs.numbers.numbers_of.Goals as goal
 
-pub returns-then-first-lt1-clause-result_value : goal.returns-then-first-lt1-clause-result_value
-returns-then-first-lt1-clause-result_value c = let g = c.args in
+pub returns-then-first-lt1 : goal.returns-then-first-lt1
+returns-then-first-lt1 c =
+    let g = c.args in
     let e = of_none g.s.now g.q g.first (length g.out.now) (sym c.is_whole-whole.ensures ∙ c.if-whole.true) (rw (lt-leb 1 g.first c.if-first-lt1.true)) in
-    rw e
+    record {
+      result_value = rw e;
+      out_after = rw e;
+    }
 
-pub returns-then-first-lt1-clause-out_after : goal.returns-then-first-lt1-clause-out_after
-returns-then-first-lt1-clause-out_after c = let g = c.args in
-    let e = of_none g.s.now g.q g.first (length g.out.now) (sym c.is_whole-whole.ensures ∙ c.if-whole.true) (rw (lt-leb 1 g.first c.if-first-lt1.true)) in
-    rw e
-
-pub returns-then-q-first-clause-result_value : goal.returns-then-q-first-clause-result_value
-returns-then-q-first-clause-result_value c = let g = c.args in
+pub returns-then-q-first : goal.returns-then-q-first
+returns-then-q-first c =
+    let g = c.args in
     let e = of_none g.s.now g.q g.first (length g.out.now) (sym c.is_whole-whole.ensures ∙ c.if-whole.true) (rw (le-leb 1 g.first (omega arith), lt-leb g.first g.q.count (omega arith))) in
-    rw e
+    record {
+      result_value = rw e;
+      out_after = rw e;
+    }
 
-pub returns-then-q-first-clause-out_after : goal.returns-then-q-first-clause-out_after
-returns-then-q-first-clause-out_after c = let g = c.args in
-    let e = of_none g.s.now g.q g.first (length g.out.now) (sym c.is_whole-whole.ensures ∙ c.if-whole.true) (rw (le-leb 1 g.first (omega arith), lt-leb g.first g.q.count (omega arith))) in
-    rw e
-
-pub returns-then-out-lt1-clause-result_value : goal.returns-then-out-lt1-clause-result_value
-returns-then-out-lt1-clause-result_value c = let g = c.args in
+pub returns-then-out-lt1 : goal.returns-then-out-lt1
+returns-then-out-lt1 c =
+    let g = c.args in
     let f : is_number_of g.first g.q.count ≡ true = rw (le-leb 1 g.first (omega arith), le-leb g.first g.q.count (omega arith)) in
     let e = of_little g.s.now g.q g.first (length g.out.now) (sym c.is_whole-whole.ensures ∙ c.if-whole.true) f c.if-out-lt1.true in
-    rw e
-
-pub returns-then-out-lt1-clause-out_after : goal.returns-then-out-lt1-clause-out_after
-returns-then-out-lt1-clause-out_after c = let g = c.args in
-    let f : is_number_of g.first g.q.count ≡ true = rw (le-leb 1 g.first (omega arith), le-leb g.first g.q.count (omega arith)) in
-    let e = of_little g.s.now g.q g.first (length g.out.now) (sym c.is_whole-whole.ensures ∙ c.if-whole.true) f c.if-out-lt1.true in
-    rw e
+    record {
+      result_value = rw e;
+      out_after = rw e;
+    }
 
 pub copy_of_type-requires : goal.copy_of_type-requires
 copy_of_type-requires c = let g = c.args in
@@ -52,22 +47,18 @@ copy_of_type-requires c = let g = c.args in
     let p = c.element_place-p.ensures.0 in
     (c.width_of-w.ensures, simp length-take (omega arith), omega arith)
 
-pub returns-else-out-lt1-clause-result_value : goal.returns-else-out-lt1-clause-result_value
-returns-else-out-lt1-clause-result_value c = (let g = c.args in
+pub returns-else-out-lt1 : goal.returns-else-out-lt1
+returns-else-out-lt1 c =
+    let g = c.args in
     let f : is_number_of g.first g.q.count ≡ true = rw (le-leb 1 g.first c.if-first-lt1.false, le-leb g.first g.q.count c.if-q-first.false) in
-    of_copied g.s.now g.q g.first g.out.now _ c.width_of-w.result _ _ c.element_place-p.ensures.0 c.width_of-w.ensures c.smaller-n.ensures (sym c.is_whole-whole.ensures ∙ c.if-whole.true) f c.if-out-lt1.false c.requires.within c.copy_of_type.ensures).0
+    let t = of_copied g.s.now g.q g.first g.out.now _ c.width_of-w.result _ _ c.element_place-p.ensures.0 c.width_of-w.ensures c.smaller-n.ensures (sym c.is_whole-whole.ensures ∙ c.if-whole.true) f c.if-out-lt1.false c.requires.within c.copy_of_type.ensures in
+    record { result_value = t.0; out_after = t.1 }
 
-pub returns-else-out-lt1-clause-out_after : goal.returns-else-out-lt1-clause-out_after
-returns-else-out-lt1-clause-out_after c = (let g = c.args in
-    let f : is_number_of g.first g.q.count ≡ true = rw (le-leb 1 g.first c.if-first-lt1.false, le-leb g.first g.q.count c.if-q-first.false) in
-    of_copied g.s.now g.q g.first g.out.now _ c.width_of-w.result _ _ c.element_place-p.ensures.0 c.width_of-w.ensures c.smaller-n.ensures (sym c.is_whole-whole.ensures ∙ c.if-whole.true) f c.if-out-lt1.false c.requires.within c.copy_of_type.ensures).1
-
-pub returns-else-whole-clause-result_value : goal.returns-else-whole-clause-result_value
-returns-else-whole-clause-result_value c = let g = c.args in
+pub returns-else-whole : goal.returns-else-whole
+returns-else-whole c =
+    let g = c.args in
     let e = of_other g.s.now g.q g.first (length g.out.now) (sym c.is_whole-whole.ensures ∙ c.if-whole.false) in
-    rw e
-
-pub returns-else-whole-clause-out_after : goal.returns-else-whole-clause-out_after
-returns-else-whole-clause-out_after c = let g = c.args in
-    let e = of_other g.s.now g.q g.first (length g.out.now) (sym c.is_whole-whole.ensures ∙ c.if-whole.false) in
-    rw e
+    record {
+      result_value = rw e;
+      out_after = rw e;
+    }

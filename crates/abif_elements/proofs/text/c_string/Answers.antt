@@ -1,6 +1,5 @@
 use native.Mathlib.Omega.{arith}
 use Rattle.abif_elements.proofs.text.Laws.{c_long, c_bad, c_good}
-use borrow.Author.Rules.{rules}
 use Rattle.abif_elements.proofs.text.c_string.Goals as goal
 
 pub overflow_sub-result : goal.overflow_sub-result

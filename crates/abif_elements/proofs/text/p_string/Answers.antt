@@ -1,6 +1,5 @@
 use native.Mathlib.Omega.{arith}
 use Rattle.abif_elements.proofs.text.Laws.{p_long, p_bad, p_good}
-use borrow.Author.Rules.{rules}
 use Rattle.abif_elements.proofs.text.p_string.Goals as goal
 
 pub overflow_sub-result : goal.overflow_sub-result

@@ -1,5 +1,4 @@
 use mathlib.Core.Path.{◌∙◌, sym, ap}
-use borrow.Author.Rules.{rules}
 use Rattle.reading.proofs.Passed.{bind_refused, bind_answered}
 use Rattle.abif.specs.Lookup.{looking_up}
 use Rattle.reading.specs.Answers.{answer_of_found}

@@ -1,8 +1,6 @@
 use mathlib.Core.Path.{◌∙◌}
 use native.Mathlib.Omega.{arith}
-use lib.ListN.{length-take}
 use Rattle.abif_elements.proofs.text.Laws.{text_other, text_p, text_c}
-use borrow.Author.Rules.{rules}
 use Rattle.abif_elements.proofs.text.text_of.Goals as goal
 
 pub returns-in-18 : goal.returns-in-18

@@ -1,6 +1,4 @@
 use mathlib.Core.Path.{◌∙◌, sym, ap}
-use native.Mathlib.Omega.{arith}
-use borrow.Author.Rules.{rules}
 use Rattle.reading.specs.Part.{shown}
 use Rattle.reading.proofs.Parts.{part_there}
 use Rattle.abif_elements.specs.Answers.{answer_of_text}

@@ -1,7 +1,6 @@
 use mathlib.Core.Path.{◌∙◌, sym, ap}
 use native.Mathlib.Omega.{arith}
 use lib.ListN.{length-take}
-use borrow.Author.Rules.{rules}
 use Rattle.reading.specs.Check.{ok}
 use Rattle.abif.specs.Answers.{answer_of_opened}
 use Rattle.abif_file.specs.Entry.{entry_reading}

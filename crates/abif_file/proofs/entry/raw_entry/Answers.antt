@@ -6,7 +6,6 @@ use Rattle.reading.proofs.Signs.{field_is}
 use Rattle.abif.specs.Entry.{entry_of}
 use Rattle.abif_file.specs.Entry.{raw_entry}
 use Rattle.abif_file.proofs.entry.Laws.{raw_part}
-use borrow.Author.Rules.{rules}
 use Rattle.abif_file.proofs.entry.raw_entry.Goals as goal
 
 pub returns : goal.returns

@@ -1,6 +1,5 @@
 use mathlib.Core.Path.{◌∙◌, sym, ap}
 use lib.ListN.{length}
-use borrow.Author.Rules.{rules}
 use Rattle.reading.specs.Check.{map_answer}
 use Rattle.abif.specs.Answers.{answer_of_opened}
 use Rattle.abif.proofs.directory.Laws.{after_refused}

@@ -7,7 +7,6 @@ use Rattle.abif_file.proofs.opened.Laws.{later_refused, later_same}
 use Rattle.reading.specs.declared.item.ItemData.{ItemData}
 use Rattle.abif.specs.Lookup.{looking_up}
 use Rattle.reading.specs.Item.{data_span}
-use borrow.Author.Rules.{rules}
 use Rattle.abif_file.proofs.opened.data_part.Goals as goal
 
 pub returns-in-Refused : goal.returns-in-Refused

@@ -5,7 +5,6 @@ use Rattle.reading.specs.Check.{Answer, map_answer}
 use Rattle.abif_file.specs.declared.entry.RawEntry.{RawEntry}
 use Rattle.abif_file.specs.List.{listing}
 use Rattle.abif_file.proofs.opened.Laws.{later_refused, later_same}
-use borrow.Author.Rules.{rules}
 use Rattle.abif_file.proofs.opened.list_answer.Goals as goal
 
 pub returns-in-Refused : goal.returns-in-Refused

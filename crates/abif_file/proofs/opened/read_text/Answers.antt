@@ -1,7 +1,6 @@
 use mathlib.Core.Path.{◌∙◌}
 use Rattle.abif_file.proofs.opened.Laws.{later_refused, later_same}
 use Rattle.abif_elements.specs.Text.{text_reading}
-use borrow.Author.Rules.{rules}
 use Rattle.abif_file.proofs.opened.read_text.Goals as goal
 
 pub returns-in-Refused : goal.returns-in-Refused

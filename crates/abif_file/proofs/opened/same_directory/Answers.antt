@@ -3,7 +3,6 @@ use Rattle.abif.specs.Answers.{answer_of_opened}
 use Rattle.abif.proofs.directory.Laws.{after_refused}
 use Rattle.abif_file.specs.Opened.{same_directory}
 use Rattle.abif_file.proofs.opened.Laws.{other_place, other_count, same_both}
-use borrow.Author.Rules.{rules}
 use Rattle.abif_file.proofs.opened.same_directory.Goals as goal
 
 pub returns-then-place-p : goal.returns-then-place-p

@@ -5,7 +5,6 @@ use Rattle.reading.specs.Check.{Answer}
 use Rattle.reading.proofs.Parts.{part_there}
 use Rattle.abif_file.proofs.opened.Laws.{later_refused, later_same}
 use Rattle.abif_elements.specs.Text.{text_reading}
-use borrow.Author.Rules.{rules}
 use Rattle.abif_file.proofs.opened.text_part.Goals as goal
 
 pub returns-in-Refused : goal.returns-in-Refused

@@ -1,4 +1,4 @@
-use mathlib.Core.Path.{refl, sym, ap}
+use mathlib.Core.Path.{refl, ap}
 use mathlib.Core.List.{List}
 use native.Mathlib.Omega.{arith}
 use lib.ListN.{length}
@@ -8,7 +8,6 @@ use Rattle.abif_tags.specs.Table.{table}
 use Rattle.abif_tags.specs.Report.{Finding, finding_numbers}
 use Rattle.abif_tags.specs.Private.{packed}
 use Rattle.abif_tags.proofs.check.Laws.{front_length, no_room, counted, copied}
-use borrow.Author.Rules.{rules}
 use Rattle.abif_tags.proofs.check.check_entries.Goals as goal
 
 pub tell-m-requires : goal.tell-m-requires

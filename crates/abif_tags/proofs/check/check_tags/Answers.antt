@@ -8,7 +8,6 @@ use Rattle.reading.proofs.Tail.{tail_ok, tail_refused}
 use Rattle.abif.specs.Judge.{extent_of}
 use Rattle.abif_tags.specs.Report.{Finding, finding_numbers}
 use Rattle.abif_tags.proofs.check.Laws.{judged_refused, judged_whole}
-use borrow.Author.Rules.{rules}
 use Rattle.abif_tags.proofs.check.check_tags.Goals as goal
 
 pub returns-in-Refused : goal.returns-in-Refused

@@ -9,7 +9,6 @@ use Rattle.abif.specs.Answers.{answer_of_opened}
 use Rattle.abif.proofs.directory.Laws.{directory_lies, opened_at, after_refused, after_opened}
 use Rattle.abif_tags.specs.Report.{Finding, finding_numbers, reporting}
 use Rattle.abif_tags.proofs.check.Laws.{one_of_eight, none_of_eight, unknown_profile, known_profile}
-use borrow.Author.Rules.{rules}
 use Rattle.abif_tags.proofs.check.check_whole.Goals as goal
 
 pub returns-then-profile-lt1 : goal.returns-then-profile-lt1

@@ -3,13 +3,12 @@ use lib.IntN.{pos}
 use lib.ListN.{get_or}
 use mir.Syntax.{w64}
 use mir.Val.{to_z, of_z}
-use Prim.Native.Nat.{◌+◌, ◌-◌}
+use Prim.Native.Nat.{◌+◌}
 use mathlib.Core.Path.{refl}
-use mathlib.Core.List.{◌++◌}
 use native.Mathlib.Omega.{arith}
 use lib.ListN.{take, drop}
 use borrow.Author.Rules.{rules}
-use Rattle.reading.proofs.Fill.{Filling, fill_start, fill_next, fill_end}
+use Rattle.reading.proofs.Fill.{fill_next, fill_end}
 use Rattle.abif_tags.proofs.check.Laws.{copied_next}
 use Rattle.abif_tags.proofs.check.copy.Goals as goal
 

@@ -4,7 +4,6 @@ use Rattle.abif.specs.Entry.{entry_of}
 use Rattle.abif_tags.specs.declared.table.Row.{Row}
 use Rattle.abif_tags.specs.Table.{agrees}
 use Rattle.abif_tags.proofs.report.Laws.{of_none, of_same, of_other}
-use borrow.Author.Rules.{rules}
 use Rattle.abif_tags.proofs.report.kind_of.Goals as goal
 
 pub returns-then-k-eq-ROW_COUNT : goal.returns-then-k-eq-ROW_COUNT

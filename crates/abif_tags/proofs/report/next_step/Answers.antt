@@ -3,7 +3,6 @@ use native.Mathlib.Omega.{arith}
 use Rattle.abif.specs.declared.tag.Tag.{Tag}
 use Rattle.abif.specs.Tag.{tag_below}
 use Rattle.abif_tags.proofs.report.Laws.{left_entry, left_row, left_missing, left_below, left_above, left_both}
-use borrow.Author.Rules.{rules}
 use Rattle.abif_tags.proofs.report.next_step.Goals as goal
 
 pub returns-then-j-eq-ROW_COUNT-clause-step_told : goal.returns-then-j-eq-ROW_COUNT-clause-step_told

@@ -1,10 +1,8 @@
 use Prim.Native.Nat.{◌+◌, ◌-◌, ◌≤◌}
 use mathlib.Core.Path.{◌≡◌}
-use native.Mathlib.Omega.{arith}
 use lib.ListN.{length}
-use borrow.Author.Rules.{rules}
-use Rattle.abif_tags.specs.Private.{told, left}
-use Rattle.abif_tags.proofs.report.Laws.{Written, written_start, written_next, written_end, left_none, told_few}
+use Rattle.abif_tags.specs.Private.{left}
+use Rattle.abif_tags.proofs.report.Laws.{Written}
 use Rattle.abif_tags.proofs.report.tell.Given as goal
 
 abbrev pub invariant-loop-i : goal.invariant-loop-i

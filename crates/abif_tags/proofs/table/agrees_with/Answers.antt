@@ -1,6 +1,5 @@
 use Rattle.reading.proofs.Tests.{tests}
 use Rattle.abif_tags.specs.Table.{agrees}
-use borrow.Author.Rules.{rules}
 use Rattle.abif_tags.proofs.table.agrees_with.Goals as goal
 
 pub returns-then-k-eq18 : goal.returns-then-k-eq18

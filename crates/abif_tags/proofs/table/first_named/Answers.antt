@@ -1,9 +1,7 @@
-use Prim.Native.Nat.{◌-◌}
 use native.Mathlib.Omega.{arith}
-use Rattle.abif_tags.proofs.Halving.{Halved, halved_start, halved_high, halved_low, halved_end}
+use Rattle.abif_tags.proofs.Halving.{halved_high, halved_low}
 use Rattle.abif_tags.specs.Private.{name_reached}
 use Rattle.abif_tags.proofs.table.Laws.{names_rise, name_below, name_reached_lem}
-use borrow.Author.Rules.{rules}
 use Rattle.abif_tags.proofs.table.first_named.Goals as goal
 
 pub loop-low-preserved-then-table-middle : goal.loop-low-preserved-then-table-middle

@@ -1,9 +1,6 @@
 use Prim.Native.Nat.{◌-◌}
-use native.Mathlib.Omega.{arith}
-use Rattle.abif_tags.proofs.Halving.{Halved, halved_start, halved_high, halved_low, halved_end}
+use Rattle.abif_tags.proofs.Halving.{Halved}
 use Rattle.abif_tags.specs.Private.{name_reached}
-use Rattle.abif_tags.proofs.table.Laws.{names_rise, name_below, name_reached_lem}
-use borrow.Author.Rules.{rules}
 use Rattle.abif_tags.proofs.table.first_named.Given as goal
 
 abbrev pub invariant-loop-low : goal.invariant-loop-low

@@ -9,8 +9,7 @@ use mir.Syntax.{w32}
 use mir.Val.{to_z}
 use mir.Facts.{to_z_pos}
 use Rattle.abif_tags.specs.Private.{presence_of, unpacked}
-use Rattle.abif_tags.proofs.table.Laws.{row_decoded, name_decoded, name_fits}
-use borrow.Author.Rules.{rules}
+use Rattle.abif_tags.proofs.table.Laws.{row_decoded}
 use Rattle.abif_tags.proofs.table.row_at.Goals as goal
 
 pub returns : goal.returns

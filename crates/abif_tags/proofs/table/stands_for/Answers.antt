@@ -2,7 +2,6 @@ use mathlib.Core.Path.{◌≡◌}
 use borrow.Author.Tests.{eq-eqb, ne_eqb}
 use mir.Syntax.{w32}
 use mir.Val.{to_z, of_z}
-use Rattle.reading.proofs.Tests.{tests}
 use Rattle.abif_tags.specs.Table.{stands_for}
 use borrow.Author.Rules.{rules}
 use Rattle.abif_tags.proofs.table.stands_for.Goals as goal

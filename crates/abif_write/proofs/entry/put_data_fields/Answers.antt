@@ -1,7 +1,5 @@
 use native.Mathlib.Omega.{arith}
-use borrow.Author.Rules.{rules}
 use Rattle.abif_write.proofs.entry.Laws.{data_put}
-use borrow.Author.Rules.{rules}
 use Rattle.abif_write.proofs.entry.put_data_fields.Goals as goal
 
 pub returns : goal.returns

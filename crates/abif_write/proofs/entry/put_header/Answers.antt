@@ -1,8 +1,6 @@
 use native.Mathlib.Omega.{arith}
-use borrow.Author.Rules.{rules}
 use Rattle.abif_write.specs.Entry.{tdir}
 use Rattle.abif_write.proofs.entry.Laws.{header_put}
-use borrow.Author.Rules.{rules}
 use Rattle.abif_write.proofs.entry.put_header.Goals as goal
 
 pub returns : goal.returns

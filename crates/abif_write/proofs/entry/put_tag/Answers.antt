@@ -1,7 +1,5 @@
 use native.Mathlib.Omega.{arith}
-use borrow.Author.Rules.{rules}
 use Rattle.abif_write.proofs.entry.Laws.{tag_put}
-use borrow.Author.Rules.{rules}
 use Rattle.abif_write.proofs.entry.put_tag.Goals as goal
 
 pub returns : goal.returns

@@ -1,9 +1,6 @@
 use Prim.Native.Nat.{◌+◌, ◌-◌, ◌*◌, ◌≤◌}
-use native.Mathlib.Omega.{arith}
-use borrow.Author.Rules.{rules}
-use Rattle.reading.proofs.Loop.{left_start}
 use Rattle.abif_write.specs.Item.{records, item_at}
-use Rattle.abif_write.proofs.file.Laws.{Taken, taken_next, taken_end, item_below, item_apart}
+use Rattle.abif_write.proofs.file.Laws.{Taken}
 use Rattle.abif_write.proofs.file.directory_place.Given as goal
 
 abbrev pub invariant-loop-i : goal.invariant-loop-i

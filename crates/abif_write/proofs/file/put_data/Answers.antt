@@ -1,7 +1,5 @@
 use native.Mathlib.Omega.{arith}
-use borrow.Author.Rules.{rules}
-use Rattle.abif_write.proofs.file.Laws.{data_inline, data_apart}
-use borrow.Author.Rules.{rules}
+use Rattle.abif_write.proofs.file.Laws.{data_inline}
 use Rattle.abif_write.proofs.file.put_data.Goals as goal
 
 pub returns-then-d-le4 : goal.returns-then-d-le4

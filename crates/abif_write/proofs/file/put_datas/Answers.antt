@@ -1,12 +1,5 @@
-use Prim.Native.Nat.{◌-◌}
-use mathlib.Core.List.{◌++◌}
-use native.Mathlib.Omega.{arith}
-use lib.ListN.{take}
-use borrow.Author.Rules.{rules}
-use Rattle.writing.proofs.Begun.{Begun, begun_start}
 use Rattle.abif_write.specs.Item.{records, item_at}
-use Rattle.abif_write.specs.File.{all_data}
-use Rattle.abif_write.proofs.file.Laws.{item_present, datas_room, datas_next, datas_end}
+use Rattle.abif_write.proofs.file.Laws.{datas_next, datas_end}
 use Rattle.abif_write.proofs.file.put_datas.Goals as goal
 
 pub loop-i-preserved : goal.loop-i-preserved

@@ -1,12 +1,9 @@
 use Prim.Native.Nat.{◌-◌}
 use mathlib.Core.List.{◌++◌}
-use native.Mathlib.Omega.{arith}
 use lib.ListN.{take}
-use borrow.Author.Rules.{rules}
-use Rattle.writing.proofs.Begun.{Begun, begun_start}
+use Rattle.writing.proofs.Begun.{Begun}
 use Rattle.abif_write.specs.Item.{records, item_at}
 use Rattle.abif_write.specs.File.{all_data}
-use Rattle.abif_write.proofs.file.Laws.{item_present, datas_room, datas_next, datas_end}
 use Rattle.abif_write.proofs.file.put_datas.Given as goal
 
 abbrev pub invariant-loop-i : goal.invariant-loop-i

@@ -1,13 +1,7 @@
-use Prim.Native.Nat.{◌+◌, ◌-◌, ◌*◌}
-use mathlib.Core.List.{◌++◌}
+use Prim.Native.Nat.{◌+◌}
 use native.Mathlib.Omega.{arith}
-use lib.ListN.{take}
-use borrow.Author.Rules.{rules}
-use Rattle.reading.proofs.Loop.{left_start}
-use Rattle.writing.proofs.Begun.{Begun}
 use Rattle.abif_write.specs.Item.{records, item_at}
-use Rattle.abif_write.specs.File.{entries}
-use Rattle.abif_write.proofs.file.Laws.{Taken, taken_next, taken_within, item_present, item_apart, item_entry, entry_placed, begun_first, entries_next, entries_end}
+use Rattle.abif_write.proofs.file.Laws.{taken_next, taken_within, item_apart, item_entry, entry_placed, entries_next, entries_end}
 use Rattle.abif_write.proofs.file.put_entries.Goals as goal
 
 pub overflow_cast-x : goal.overflow_cast-x

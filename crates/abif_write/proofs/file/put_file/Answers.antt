@@ -1,9 +1,7 @@
 use native.Mathlib.Omega.{arith}
 use lib.ListN.{length}
-use borrow.Author.Rules.{rules}
 use Rattle.abif_write.specs.Item.{records, item_at}
 use Rattle.abif_write.proofs.file.Laws.{datas_fit, file_put}
-use borrow.Author.Rules.{rules}
 use Rattle.abif_write.proofs.file.put_file.Goals as goal
 
 pub put_datas-requires-clause-has_room : goal.put_datas-requires-clause-has_room

@@ -1,9 +1,6 @@
 use Rattle.reading.specs.Check.{answer}
 use Rattle.reading.proofs.Tests.{tests}
-use borrow.Author.Rules.{rules}
-use Rattle.reading.proofs.Product.{below}
 use Rattle.abif_write.specs.Item.{count_check}
-use borrow.Author.Rules.{rules}
 use Rattle.abif_write.proofs.item.count_tests.Goals as goal
 
 pub returns-then-d-ge2147483648 : goal.returns-then-d-ge2147483648

@@ -1,6 +1,5 @@
 use native.Mathlib.Omega.{arith}
-use Rattle.abif_write.proofs.item.Laws.{denied, granted, item_outside, item_type, item_count, item_bad, item_good, count_few}
-use borrow.Author.Rules.{rules}
+use Rattle.abif_write.proofs.item.Laws.{item_outside, item_type, item_count, item_bad, item_good, count_few}
 use Rattle.abif_write.proofs.item.item_tests.Goals as goal
 
 pub returns-then-buffer-d : goal.returns-then-buffer-d

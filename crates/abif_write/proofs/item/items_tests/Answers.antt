@@ -1,12 +1,8 @@
-use Prim.Native.Nat.{◌-◌, ◌≤◌}
 use mathlib.Core.Path.{◌∙◌}
-use mathlib.Core.List.{[]}
 use native.Mathlib.Omega.{arith}
-use borrow.Author.Rules.{rules}
-use Rattle.reading.specs.Check.{answer}
-use Rattle.reading.proofs.Loop.{Left, left_start, left_next, left_stop, left_end}
-use Rattle.abif_write.specs.Item.{records, item_at, items_check}
-use Rattle.abif_write.proofs.item.Laws.{denied, granted, items_stop, items_order, items_next, items_end}
+use Rattle.reading.proofs.Loop.{left_next, left_stop, left_end}
+use Rattle.abif_write.specs.Item.{records, item_at}
+use Rattle.abif_write.proofs.item.Laws.{items_stop, items_order, items_next, items_end}
 use Rattle.abif_write.proofs.item.items_tests.Goals as goal
 
 pub returns-in-Fail : goal.returns-in-Fail

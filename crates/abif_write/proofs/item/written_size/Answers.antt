@@ -1,7 +1,5 @@
 use mathlib.Core.Path.{◌∙◌, sym, ap}
-use borrow.Author.Rules.{rules}
 use Rattle.abif_write.specs.Item.{written_size}
-use borrow.Author.Rules.{rules}
 use Rattle.abif_write.proofs.item.written_size.Goals as goal
 
 pub returns-in-Listed : goal.returns-in-Listed

@@ -1,7 +1,6 @@
 use native.Mathlib.Omega.{arith}
 use Rattle.abif_write.specs.ItemContents.{contents_hold}
 use Rattle.abif_write.proofs.item_contents.Laws.{contents_free}
-use borrow.Author.Rules.{rules}
 use Rattle.abif_write.proofs.item_contents.contents_hold.Goals as goal
 
 pub returns-in-10 : goal.returns-in-10

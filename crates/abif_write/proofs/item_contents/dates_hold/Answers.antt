@@ -1,8 +1,7 @@
-use Prim.Native.Nat.{◌-◌, ◌≤◌}
 use mathlib.Core.Path.{◌∙◌}
 use native.Mathlib.Omega.{arith}
-use Rattle.reading.proofs.Loop.{Left, left_start, left_next, left_stop, left_end}
-use Rattle.abif_write.specs.ItemContents.{is_date_at, each_element}
+use Rattle.reading.proofs.Loop.{left_next, left_stop, left_end}
+use Rattle.abif_write.specs.ItemContents.{is_date_at}
 use Rattle.abif_write.proofs.item_contents.Laws.{each_next, each_stop, each_end}
 use Rattle.abif_write.proofs.item_contents.dates_hold.Goals as goal
 

@@ -1,9 +1,6 @@
 use Prim.Native.Nat.{◌-◌, ◌≤◌}
-use mathlib.Core.Path.{◌∙◌}
-use native.Mathlib.Omega.{arith}
-use Rattle.reading.proofs.Loop.{Left, left_start, left_next, left_stop, left_end}
+use Rattle.reading.proofs.Loop.{Left}
 use Rattle.abif_write.specs.ItemContents.{is_date_at, each_element}
-use Rattle.abif_write.proofs.item_contents.Laws.{each_next, each_stop, each_end}
 use Rattle.abif_write.proofs.item_contents.dates_hold.Given as goal
 
 abbrev pub invariant-loop-i : goal.invariant-loop-i

@@ -1,10 +1,7 @@
-use Prim.Native.Nat.{◌+◌, ◌*◌, ◌≤◌, ◌-◌}
 use mathlib.Core.Path.{sym, ◌∙◌}
 use native.Mathlib.Omega.{arith}
-use borrow.Author.Rules.{rules}
-use Rattle.reading.proofs.Loop.{Left, left_next, left_end}
-use Rattle.contents.specs.Steps.{step_sum}
-use Rattle.contents.proofs.steps.Laws.{sum_start, sum_on, sum_end}
+use Rattle.reading.proofs.Loop.{left_next, left_end}
+use Rattle.contents.proofs.steps.Laws.{sum_on, sum_end}
 use Rattle.contents.proofs.steps.chunk_sum.Goals as goal
 
 pub loop-i-preserved : goal.loop-i-preserved

@@ -1,10 +1,6 @@
 use Prim.Native.Nat.{◌+◌, ◌*◌, ◌≤◌, ◌-◌}
-use mathlib.Core.Path.{sym, ◌∙◌}
-use native.Mathlib.Omega.{arith}
-use borrow.Author.Rules.{rules}
-use Rattle.reading.proofs.Loop.{Left, left_next, left_end}
+use Rattle.reading.proofs.Loop.{Left}
 use Rattle.contents.specs.Steps.{step_sum}
-use Rattle.contents.proofs.steps.Laws.{sum_start, sum_on, sum_end}
 use Rattle.contents.proofs.steps.chunk_sum.Given as goal
 
 abbrev pub invariant-loop-i : goal.invariant-loop-i

@@ -1,4 +1,3 @@
-use borrow.Author.Rules.{rules}
 use Rattle.contents.proofs.steps.Laws.{steps_none, steps_zero, steps_on}
 use Rattle.contents.proofs.steps.steps_hold.Goals as goal
 

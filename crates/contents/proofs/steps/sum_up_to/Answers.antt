@@ -1,10 +1,5 @@
-use Prim.Native.Nat.{◌+◌, ◌-◌, ◌*◌, ◌≤◌}
-use mathlib.Core.Path.{◌≡◌}
 use native.Mathlib.Omega.{arith}
-use lib.ListN.{length-take, length-drop}
-use borrow.Author.Rules.{rules}
-use Rattle.contents.specs.Steps.{step_sum}
-use Rattle.contents.proofs.steps.Laws.{sum_begin, sum_chunk, sum_all}
+use Rattle.contents.proofs.steps.Laws.{sum_chunk, sum_all}
 use Rattle.contents.proofs.steps.sum_up_to.Goals as goal
 
 pub returns-then-most-sum : goal.returns-then-most-sum

@@ -1,11 +1,10 @@
 use Prim.Native.Nat.{◌-◌}
 use mathlib.Core.Path.{◌∙◌}
 use native.Mathlib.Omega.{arith}
-use lib.ListN.{length, length-take}
+use lib.ListN.{length}
 use Rattle.reading.proofs.Tests.{tests}
 use Rattle.contents.specs.Text.{is_cstring}
 use Rattle.contents.proofs.text.Laws.{c_string_on, zero_taken}
-use borrow.Author.Rules.{rules}
 use Rattle.contents.proofs.text.c_string_holds.Goals as goal
 
 pub returns-then-n-lt1 : goal.returns-then-n-lt1

@@ -1,12 +1,8 @@
 use Prim.Native.Nat.{◌≤◌, ◌-◌}
-use mathlib.Core.Path.{sym, ◌∙◌}
 use mathlib.Core.Bool.{true}
-use native.Mathlib.Omega.{arith}
-use borrow.Author.Rules.{rules}
 use Rattle.reading.specs.Choice.{pick}
-use Rattle.reading.proofs.Loop.{Left, left_start, left_next, left_end}
+use Rattle.reading.proofs.Loop.{Left}
 use Rattle.contents.specs.Text.{zero_among}
-use Rattle.contents.proofs.text.Laws.{zero_on, zero_end}
 use Rattle.contents.proofs.text.has_zero.Given as goal
 
 abbrev pub invariant-loop-i : goal.invariant-loop-i

@@ -2,7 +2,6 @@ use native.Mathlib.Omega.{arith}
 use Rattle.reading.proofs.Tests.{tests}
 use Rattle.contents.specs.Text.{is_pstring}
 use Rattle.contents.proofs.text.Laws.{p_string_on}
-use borrow.Author.Rules.{rules}
 use Rattle.contents.proofs.text.p_string_holds.Goals as goal
 
 pub returns-then-n-lt1 : goal.returns-then-n-lt1

@@ -1,4 +1,3 @@
-use borrow.Author.Rules.{rules}
 use Rattle.gtc.specs.Entry.{entry_of}
 use Rattle.gtc.proofs.entry.entry_at.Goals as goal
 

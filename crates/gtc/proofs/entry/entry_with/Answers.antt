@@ -1,4 +1,3 @@
-use borrow.Author.Rules.{rules}
 use mathlib.Core.Path.{sym, ◌∙◌, ap}
 use Rattle.reading.specs.declared.check.Test.{Test}
 use Rattle.reading.specs.Check.{passed, failed}

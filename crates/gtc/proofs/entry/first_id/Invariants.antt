@@ -1,9 +1,6 @@
-use Prim.Native.Nat.{ℕ, ◌≤◌, ◌-◌}
-use mathlib.Core.Path.{ap}
-use native.Mathlib.Omega.{arith}
-use Rattle.reading.proofs.Loop.{Left, left_next, left_stop, left_end}
+use Prim.Native.Nat.{◌≤◌, ◌-◌}
+use Rattle.reading.proofs.Loop.{Left}
 use Rattle.reading.specs.Entries.{first_with}
-use Rattle.reading.proofs.Entries.{first_here, first_on}
 use Rattle.gtc.specs.Entry.{has_id}
 use Rattle.gtc.proofs.entry.first_id.Given as goal
 

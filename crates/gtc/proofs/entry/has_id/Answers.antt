@@ -1,4 +1,3 @@
-use borrow.Author.Rules.{rules}
 use mathlib.Core.Path.{◌∙◌}
 use Rattle.reading.proofs.Width.{le_part}
 use Rattle.gtc.specs.Entry.{has_id}

@@ -1,4 +1,3 @@
-use borrow.Author.Rules.{rules}
 use Rattle.reading.specs.Check.{run}
 use Rattle.reading.proofs.Tests.{tests}
 use Rattle.gtc.specs.Item.{array_count}

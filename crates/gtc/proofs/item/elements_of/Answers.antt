@@ -1,9 +1,6 @@
-use borrow.Author.Rules.{rules}
 use Rattle.reading.specs.Check.{run}
 use Rattle.reading.proofs.Tests.{tests}
 use Rattle.gtc.specs.Item.{elements_of}
-use Rattle.reading.proofs.Product.{below}
-use native.Mathlib.Omega.{arith}
 use Rattle.gtc.proofs.item.elements_of.Goals as goal
 
 pub returns-then-s-e : goal.returns-then-s-e

@@ -1,4 +1,3 @@
-use borrow.Author.Rules.{rules}
 use mathlib.Core.Path.{sym, ◌∙◌, ap}
 use Rattle.reading.specs.Check.{run}
 use Rattle.reading.proofs.Steps.{run_done}

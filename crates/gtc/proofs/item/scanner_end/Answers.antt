@@ -1,10 +1,7 @@
-use borrow.Author.Rules.{rules}
-use native.Mathlib.Omega.{arith}
 use mathlib.Core.Path.{sym, ◌∙◌, ap}
-use Rattle.reading.proofs.Passed.{bind_failed, not_passed, bind_short, bind_passed}
+use Rattle.reading.proofs.Passed.{bind_failed, bind_short, bind_passed}
 use Rattle.gtc.specs.Item.{scanner_rest, scanner_end}
 use Rattle.reading.specs.Answers.{outcome_of_ended}
-use Rattle.gtc.proofs.item.Laws.{failed_not}
 use Rattle.gtc.proofs.item.scanner_end.Goals as goal
 
 pub returns-in-Failed-clause-result_value : goal.returns-in-Failed-clause-result_value

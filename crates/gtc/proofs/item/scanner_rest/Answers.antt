@@ -1,12 +1,11 @@
-use borrow.Author.Rules.{rules}
 use Rattle.reading.specs.Check.{run}
 use Rattle.reading.proofs.Tests.{tests}
 use native.Mathlib.Omega.{arith}
 use mathlib.Core.Path.{sym, ◌∙◌, ap}
-use Rattle.reading.proofs.Passed.{bind_failed, not_passed, bind_short, bind_passed}
+use Rattle.reading.proofs.Passed.{bind_failed, bind_short, bind_passed}
 use Rattle.gtc.specs.Item.{string_end, scanner_rest}
 use Rattle.reading.specs.Answers.{outcome_of_ended}
-use Rattle.gtc.proofs.item.Laws.{failed_not, rest_on}
+use Rattle.gtc.proofs.item.Laws.{rest_on}
 use Rattle.gtc.proofs.item.scanner_rest.Goals as goal
 
 pub returns-then-s-red-clause-result_value : goal.returns-then-s-red-clause-result_value

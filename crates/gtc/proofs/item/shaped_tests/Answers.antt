@@ -1,4 +1,3 @@
-use borrow.Author.Rules.{rules}
 use mathlib.Core.Path.{sym, ◌∙◌, ap}
 use Rattle.reading.specs.Answers.{outcome_of_tested}
 use Rattle.reading.proofs.Passed.{bind_failed, bind_passed}

@@ -1,4 +1,3 @@
-use borrow.Author.Rules.{rules}
 use mathlib.Core.Path.{sym, ◌∙◌, ap}
 use Rattle.reading.proofs.Passed.{bind_failed, bind_passed}
 use Rattle.gtc.specs.Answers.{outcome_of_entry_found}

@@ -1,6 +1,3 @@
-use borrow.Author.Rules.{rules}
-use native.Mathlib.Omega.{arith}
-use Rattle.reading.proofs.Passed.{not_passed, passed_inj}
 use Rattle.gtc.proofs.item.Laws.{string_short, string_cut, string_at}
 use Rattle.gtc.proofs.item.string_end.Goals as goal
 

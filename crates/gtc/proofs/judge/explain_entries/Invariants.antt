@@ -1,15 +1,10 @@
-use borrow.Author.Rules.{rules}
 use Prim.Native.Nat.{◌≤◌, ◌-◌}
-use mathlib.Core.Path.{sym, ◌∙◌, ap}
-use native.Mathlib.Omega.{arith}
 use Rattle.reading.specs.Check.{run}
 use Rattle.reading.specs.Explain.{explanation_of}
-use Rattle.reading.proofs.Loop.{Left, left_start, left_next, left_stop, left_end}
+use Rattle.reading.proofs.Loop.{Left}
 use Rattle.gtc.specs.Table.{table_end}
 use Rattle.reading.specs.Entries.{in_order}
-use Rattle.reading.proofs.Entries.{order_failed, order_short, order_next, order_end}
 use Rattle.gtc.specs.Judge.{judge_entry}
-use Rattle.reading.specs.Answers.{outcome_of_ended}
 use Rattle.gtc.proofs.judge.explain_entries.Given as goal
 
 abbrev pub invariant-loop-i : goal.invariant-loop-i

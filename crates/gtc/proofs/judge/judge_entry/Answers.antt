@@ -1,4 +1,3 @@
-use borrow.Author.Rules.{rules}
 use mathlib.Core.Path.{sym, ◌∙◌}
 use Rattle.reading.proofs.Steps.{run_done}
 use Rattle.gtc.specs.Judge.{judge_as}

@@ -1,4 +1,3 @@
-use borrow.Author.Rules.{rules}
 use mathlib.Core.Path.{sym, ◌∙◌, ap}
 use Rattle.reading.specs.Answers.{answer_of_verdict}
 use Rattle.gtc.proofs.judge.Laws.{table_whole, table_refused}

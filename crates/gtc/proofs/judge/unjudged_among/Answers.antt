@@ -1,8 +1,7 @@
-use Prim.Native.Nat.{ℕ, ◌+◌, ◌≤◌, ◌-◌}
-use mathlib.Core.Path.{sym, ◌∙◌, ap}
+use mathlib.Core.Path.{sym, ◌∙◌}
 use native.Mathlib.Omega.{arith}
-use native.Mathlib.Nat.{zero-add, add-zero}
-use Rattle.reading.proofs.Loop.{Left, left_next, left_end}
+use native.Mathlib.Nat.{add-zero}
+use Rattle.reading.proofs.Loop.{left_next, left_end}
 use Rattle.gtc.specs.Judge.{unjudged_among}
 use Rattle.gtc.proofs.judge.Laws.{unjudged_on}
 use Rattle.gtc.proofs.judge.unjudged_among.Goals as goal

@@ -1,10 +1,6 @@
-use Prim.Native.Nat.{ℕ, ◌+◌, ◌≤◌, ◌-◌}
-use mathlib.Core.Path.{sym, ◌∙◌, ap}
-use native.Mathlib.Omega.{arith}
-use native.Mathlib.Nat.{zero-add, add-zero}
-use Rattle.reading.proofs.Loop.{Left, left_next, left_end}
+use Prim.Native.Nat.{◌+◌, ◌≤◌, ◌-◌}
+use Rattle.reading.proofs.Loop.{Left}
 use Rattle.gtc.specs.Judge.{unjudged_among}
-use Rattle.gtc.proofs.judge.Laws.{unjudged_on}
 use Rattle.gtc.proofs.judge.unjudged_among.Given as goal
 
 abbrev pub invariant-loop-i : goal.invariant-loop-i

@@ -1,10 +1,8 @@
-use borrow.Author.Rules.{rules}
 use mathlib.Core.Path.{sym, ◌∙◌, ap}
 use Rattle.reading.specs.Part.{shown}
 use Rattle.reading.proofs.Parts.{part_there}
 use Rattle.reading.specs.Answers.{answer_of_found}
 use Rattle.gtc.proofs.lookup.Laws.{lookup_within}
-use native.Mathlib.Omega.{arith}
 use Rattle.gtc.proofs.lookup.data_part.Goals as goal
 
 pub returns-in-Data : goal.returns-in-Data

@@ -1,4 +1,3 @@
-use borrow.Author.Rules.{rules}
 use mathlib.Core.Path.{sym, ◌∙◌}
 use Rattle.gtc.proofs.lookup.Laws.{in_listed, in_unlisted}
 use Rattle.gtc.proofs.lookup.lookup_in.Goals as goal

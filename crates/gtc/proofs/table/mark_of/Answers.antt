@@ -1,4 +1,3 @@
-use borrow.Author.Rules.{rules}
 use Rattle.gtc.proofs.table.Laws.{mark_bytes}
 use Rattle.gtc.proofs.table.mark_of.Goals as goal
 

@@ -1,6 +1,3 @@
-use borrow.Author.Rules.{rules}
-use native.Mathlib.Omega.{arith}
-use lib.ListN.{length-take}
 use Rattle.reading.proofs.Width.{byte_le}
 use Rattle.gtc.proofs.table.Laws.{table_short, table_mark, table_count, table_cut, table_whole}
 use Prim.Native.Nat.{ℕ}

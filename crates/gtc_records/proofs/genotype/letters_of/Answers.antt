@@ -1,5 +1,3 @@
-use borrow.Author.Rules.{rules}
-use native.Mathlib.Omega.{arith}
 use mathlib.Core.Path.{◌∙◌}
 use Rattle.gtc_records.proofs.genotype.Laws.{of_length}
 use Rattle.gtc_records.proofs.genotype.letters_of.Goals as goal

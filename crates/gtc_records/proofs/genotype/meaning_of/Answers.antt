@@ -1,4 +1,3 @@
-use borrow.Author.Rules.{rules}
 use Rattle.reading.proofs.Tests.{tests}
 use Rattle.gtc_records.specs.Genotype.{meaning}
 use Rattle.gtc_records.proofs.genotype.meaning_of.Goals as goal

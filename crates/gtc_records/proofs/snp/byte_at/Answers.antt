@@ -1,4 +1,3 @@
-use borrow.Author.Rules.{rules}
 use mathlib.Core.Path.{◌∙◌}
 use Rattle.reading.proofs.Width.{byte_le, le_part}
 use Rattle.gtc_records.proofs.snp.byte_at.Goals as goal

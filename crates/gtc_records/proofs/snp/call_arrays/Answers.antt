@@ -1,4 +1,3 @@
-use borrow.Author.Rules.{rules}
 use mathlib.Core.Path.{◌∙◌, sym, ap}
 use Rattle.reading.proofs.Steps.{answer_bind, answer_done}
 use Rattle.reading.specs.Answers.{answer_of_found}

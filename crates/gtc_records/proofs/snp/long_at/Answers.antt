@@ -1,5 +1,4 @@
 use mathlib.Core.Path.{◌∙◌}
-use borrow.Author.Rules.{rules}
 use Rattle.reading.proofs.Width.{le_part}
 use Rattle.gtc_records.proofs.snp.long_at.Goals as goal
 

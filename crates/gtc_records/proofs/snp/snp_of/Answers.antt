@@ -1,5 +1,3 @@
-use borrow.Author.Rules.{rules}
-use Prim.Native.Nat.{◌+◌, ◌-◌}
 use mathlib.Core.Path.{◌≡◌, ◌∙◌}
 use mathlib.Core.Bool.{true}
 use native.Mathlib.Omega.{arith}
@@ -8,7 +6,7 @@ use Rattle.reading.specs.Choice.{is_number_of}
 use Rattle.reading.specs.Check.{answer}
 use Rattle.reading.proofs.Tests.{tests}
 use Rattle.gtc_records.specs.Snp.{snp_of}
-use Rattle.gtc_records.proofs.snp.Laws.{of_snp, elements_there, elements_within}
+use Rattle.gtc_records.proofs.snp.Laws.{of_snp}
 use Rattle.gtc_records.proofs.snp.snp_of.Goals as goal
 
 pub returns-then-index-lt1 : goal.returns-then-index-lt1

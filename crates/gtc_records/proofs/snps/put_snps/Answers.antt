@@ -1,14 +1,10 @@
-use Prim.Native.Nat.{◌+◌, ◌-◌, ◌*◌, ◌≤◌}
-use mathlib.Core.Path.{◌≡◌, refl}
-use mathlib.Core.List.{[], ◌++◌}
+use mathlib.Core.Path.{refl}
+use mathlib.Core.List.{[]}
 use native.Mathlib.Omega.{arith}
-use lib.ListN.{drop}
-use borrow.Author.Rules.{rules}
-use Rattle.reading.proofs.Fill.{Filling, fill_end}
-use Rattle.gtc_records.specs.Snps.{snps_at, snp_records}
+use Rattle.reading.proofs.Fill.{fill_end}
+use Rattle.gtc_records.specs.Snps.{snps_at}
 use Rattle.gtc_records.specs.Snp.{snp_bytes_of}
-use Rattle.gtc_records.proofs.snp.Laws.{elements_within}
-use Rattle.gtc_records.proofs.snps.Laws.{ahead, fill_first, fill_snp}
+use Rattle.gtc_records.proofs.snps.Laws.{fill_snp}
 use Rattle.gtc_records.proofs.snps.put_snps.Goals as goal
 
 pub loop-k-preserved : goal.loop-k-preserved

@@ -1,14 +1,11 @@
 use Prim.Native.Nat.{◌+◌, ◌-◌, ◌*◌, ◌≤◌}
-use mathlib.Core.Path.{◌≡◌, refl}
-use mathlib.Core.List.{[], ◌++◌}
-use native.Mathlib.Omega.{arith}
+use mathlib.Core.Path.{◌≡◌}
+use mathlib.Core.List.{◌++◌}
 use lib.ListN.{drop}
-use borrow.Author.Rules.{rules}
-use Rattle.reading.proofs.Fill.{Filling, fill_end}
+use Rattle.reading.proofs.Fill.{Filling}
 use Rattle.gtc_records.specs.Snps.{snps_at, snp_records}
 use Rattle.gtc_records.specs.Snp.{snp_bytes_of}
-use Rattle.gtc_records.proofs.snp.Laws.{elements_within}
-use Rattle.gtc_records.proofs.snps.Laws.{ahead, fill_first, fill_snp}
+use Rattle.gtc_records.proofs.snps.Laws.{ahead}
 use Rattle.gtc_records.proofs.snps.put_snps.Given as goal
 
 abbrev pub invariant-loop-k : goal.invariant-loop-k

@@ -1,6 +1,5 @@
 use mathlib.Core.Path.{◌∙◌, sym, ap}
 use lib.ListN.{length}
-use borrow.Author.Rules.{rules}
 use Rattle.reading.proofs.Passed.{bind_refused, bind_answered}
 use Rattle.gtc_records.specs.Snp.{snp_arrays}
 use Rattle.gtc_records.specs.Answers.{answer_of_arrays_found}

@@ -1,13 +1,10 @@
-use Prim.Native.Nat.{◌+◌, ◌-◌}
 use mathlib.Core.Path.{◌≡◌}
 use mathlib.Core.Bool.{true, false}
 use native.Mathlib.Omega.{arith}
 use lib.ListN.{length}
 use borrow.Author.Tests.{le-leb, lt-leb}
 use Rattle.reading.specs.Choice.{is_number_of}
-use Rattle.gtc_records.proofs.snp.Laws.{elements_there, elements_within}
 use Rattle.gtc_records.proofs.snps.Laws.{of_none, of_small, of_put}
-use borrow.Author.Rules.{rules}
 use Rattle.gtc_records.proofs.snps.snps_of.Goals as goal
 
 pub returns-then-first-lt1 : goal.returns-then-first-lt1

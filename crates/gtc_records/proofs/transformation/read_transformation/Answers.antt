@@ -1,4 +1,3 @@
-use borrow.Author.Rules.{rules}
 use mathlib.Core.Path.{◌∙◌, sym, ap}
 use Rattle.reading.proofs.Passed.{bind_refused, bind_answered}
 use Rattle.gtc.specs.Item.{normalization_transformations_id}

@@ -1,4 +1,3 @@
-use borrow.Author.Rules.{rules}
 use mir.Syntax.{w32}
 use Rattle.reading.proofs.Signs.{field_is}
 use Rattle.gtc_records.specs.Transformation.{transformation_at}

@@ -1,6 +1,4 @@
-use borrow.Author.Rules.{rules}
 use mathlib.Core.Path.{◌∙◌, sym, ap}
-use native.Mathlib.Omega.{arith}
 use Rattle.reading.specs.Part.{shown}
 use Rattle.reading.proofs.Parts.{part_there}
 use Rattle.gtc_records.specs.Answers.{answer_of_transformation_read}

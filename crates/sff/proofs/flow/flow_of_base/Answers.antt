@@ -1,5 +1,4 @@
 use mathlib.Core.Path.{◌∙◌, sym, ap}
-use borrow.Author.Rules.{rules}
 use Rattle.reading.proofs.Passed.{bind_refused, bind_answered}
 use Rattle.sff_fields.specs.declared.parts.ReadPart.TheVariants.{Steps}
 use Rattle.sff.specs.Lookup.{read_reading}

@@ -1,7 +1,6 @@
 use Prim.Native.Nat.{◌+◌, ◌*◌}
 use mathlib.Core.Path.{◌≡◌}
 use native.Mathlib.Omega.{arith}
-use borrow.Author.Rules.{rules}
 use Rattle.reading.specs.Number.{be}
 use Rattle.reading.proofs.Width.{be_split}
 use Rattle.sff.specs.Header.{header_of}

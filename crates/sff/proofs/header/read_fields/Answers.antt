@@ -1,5 +1,4 @@
 use mathlib.Core.Path.{◌∙◌, sym, ap}
-use borrow.Author.Rules.{rules}
 use Rattle.reading.specs.Check.{answer_of_outcome}
 use Rattle.reading.proofs.Cut.{answer_plain}
 use Rattle.sff.specs.Header.{header}

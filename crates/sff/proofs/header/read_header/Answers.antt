@@ -1,6 +1,4 @@
 use mathlib.Core.Path.{◌≡◌, sym, ◌∙◌, ap}
-use native.Mathlib.Omega.{arith}
-use lib.ListN.{length-take}
 use Rattle.reading.specs.Answers.{outcome_of_tested}
 use Rattle.sff.proofs.header.Laws.{tested, header_short, header_bad, header_cut, header_good}
 use borrow.Author.Rules.{rules}

@@ -2,7 +2,6 @@ use mathlib.Core.Path.{sym, ◌∙◌, ap}
 use native.Mathlib.Omega.{arith}
 use Rattle.sff.specs.Answers.{outcome_of_skipped}
 use Rattle.sff.proofs.judge.Laws.{ending_short, ending_none, ending_behind, ending_unmet}
-use borrow.Author.Rules.{rules}
 use Rattle.sff.proofs.judge.explain_ending.Goals as goal
 
 pub returns-then-d-eq0 : goal.returns-then-d-eq0

@@ -1,6 +1,5 @@
 use mathlib.Core.Path.{sym, ◌∙◌, ap}
 use native.Mathlib.Omega.{arith}
-use borrow.Author.Rules.{rules}
 use Rattle.reading.specs.Explain.{explanation_of}
 use Rattle.reading.proofs.Explained.{explained_short}
 use Rattle.sff.specs.Answers.{outcome_of_walked}

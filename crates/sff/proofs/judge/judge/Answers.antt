@@ -1,7 +1,6 @@
 use mathlib.Core.Path.{◌∙◌}
 use Rattle.reading.proofs.Tail.{verdict_explained}
 use Rattle.sff.specs.Judge.{judging}
-use borrow.Author.Rules.{rules}
 use Rattle.sff.proofs.judge.judge.Goals as goal
 
 pub returns : goal.returns

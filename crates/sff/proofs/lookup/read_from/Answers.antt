@@ -4,7 +4,6 @@ use lib.ListN.{length-take}
 use Rattle.reading.specs.Answers.{outcome_of_ended}
 use Rattle.sff.proofs.read.Laws.{fields_fixed}
 use Rattle.sff.proofs.lookup.Laws.{from_failed, from_short, from_there, from_steps, from_contents}
-use borrow.Author.Rules.{rules}
 use Rattle.sff.proofs.lookup.read_from.Goals as goal
 
 pub slice_bounds-read_header_of-end : goal.slice_bounds-read_header_of-end

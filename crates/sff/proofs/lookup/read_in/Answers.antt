@@ -1,5 +1,4 @@
 use mathlib.Core.Path.{sym, ◌∙◌, ap}
-use borrow.Author.Rules.{rules}
 use Rattle.reading.proofs.Cut.{run_ok}
 use Rattle.reading.proofs.Passed.{bind_refused}
 use Rattle.sff.specs.Walk.{before_read}

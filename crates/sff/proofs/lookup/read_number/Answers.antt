@@ -1,5 +1,4 @@
 use mathlib.Core.Path.{◌∙◌, sym, ap}
-use borrow.Author.Rules.{rules}
 use Rattle.reading.proofs.Passed.{bind_refused, bind_answered}
 use Rattle.sff.specs.Header.{header}
 use Rattle.sff.specs.Answers.{answer_of_header_found}

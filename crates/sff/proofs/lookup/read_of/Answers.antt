@@ -1,11 +1,9 @@
 use Prim.Native.Nat.{◌+◌}
 use mathlib.Core.Path.{◌∙◌, ap}
-use native.Mathlib.Omega.{arith}
 use Rattle.reading.specs.Part.{Span}
 use Rattle.sff_fields.specs.Read.{flows_start, steps_start, letters_start, qualities_start}
 use Rattle.sff_fields.specs.Parts.{read_of}
-use Rattle.sff.proofs.lookup.Laws.{last_below, insert_of}
-use borrow.Author.Rules.{rules}
+use Rattle.sff.proofs.lookup.Laws.{insert_of}
 use Rattle.sff.proofs.lookup.read_of.Goals as goal
 
 pub returns : goal.returns

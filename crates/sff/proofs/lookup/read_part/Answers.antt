@@ -1,8 +1,5 @@
 use mathlib.Core.Path.{◌∙◌, sym, ap}
-use native.Mathlib.Omega.{arith}
-use borrow.Author.Rules.{rules}
 use Rattle.reading.specs.Part.{shown}
-use Rattle.reading.proofs.Parts.{part_there}
 use Rattle.sff_fields.specs.Answers.{answer_of_read_found}
 use Rattle.sff_fields.specs.Parts.{span_of}
 use Rattle.sff.proofs.lookup.Laws.{number_fits, part_placed}

@@ -5,7 +5,6 @@ use Rattle.reading.specs.Check.{ok}
 use Rattle.contents.proofs.steps.Laws.{steps_window}
 use Rattle.sff_fields.specs.Read.{steps_start}
 use Rattle.sff.proofs.lookup.Laws.{contents_bad, contents_good}
-use borrow.Author.Rules.{rules}
 use Rattle.sff.proofs.lookup.read_present.Goals as goal
 
 pub returns-then-hold : goal.returns-then-hold

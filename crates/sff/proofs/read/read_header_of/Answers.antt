@@ -1,5 +1,4 @@
 use Rattle.sff.specs.Read.{read_header_at}
-use borrow.Author.Rules.{rules}
 use Rattle.sff.proofs.read.read_header_of.Goals as goal
 
 pub returns : goal.returns

@@ -2,7 +2,6 @@ use Prim.Native.Nat.{◌-◌, ◌≤◌}
 use mathlib.Core.Path.{◌≡◌, sym, subst}
 use native.Mathlib.Omega.{arith}
 use lib.ListN.{length, length-take, length-drop}
-use borrow.Author.Rules.{rules}
 use Rattle.reading.specs.Check.{ok, answer}
 use Rattle.sff.specs.Walk.{walk}
 use Rattle.sff.specs.declared.walk.Boundary.{Boundary}

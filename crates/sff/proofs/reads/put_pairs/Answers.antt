@@ -1,18 +1,16 @@
-use Prim.Native.Nat.{ℕ, ◌+◌, ◌-◌, ◌*◌, ◌/◌, ◌≤◌}
+use Prim.Native.Nat.{ℕ, ◌+◌, ◌*◌}
 use mathlib.Core.List.{List, ◌++◌}
-use mathlib.Core.Path.{◌≡◌, sym, ◌∙◌, ap, subst}
+use mathlib.Core.Path.{◌≡◌, sym, ◌∙◌, ap}
 use native.Mathlib.Omega.{arith}
-use lib.ListN.{length, drop}
-use borrow.Author.Rules.{rules}
-use Rattle.reading.proofs.Fill.{Lanes, lanes_start, lanes_next, lanes_end}
-use Rattle.reading.proofs.Loop.{Left, left_start, left_next, left_end}
+use lib.ListN.{drop}
+use Rattle.reading.proofs.Fill.{lanes_next, lanes_end}
+use Rattle.reading.proofs.Loop.{left_next, left_end}
 use Rattle.reading.specs.Bulk.{record_of, records}
 use Rattle.sff_fields.specs.Answers.{answer_of_read_found}
 use Rattle.sff_fields.proofs.record.Laws.{record_wide, two_written}
-use Rattle.sff.specs.Private.{Passes}
 use Rattle.sff.specs.Reads.{reads_at}
 use Rattle.sff_fields.specs.Parts.{read_numbers}
-use Rattle.sff.proofs.reads.Laws.{along, along_is, farther, farther_next, farther_end, farther_is, passes_first, passes_next, numbers_left, numbers_next, numbers_none}
+use Rattle.sff.proofs.reads.Laws.{along, along_is, farther_next, farther_end, farther_is, passes_first, passes_next, numbers_next, numbers_none}
 use Rattle.sff.proofs.walk.Laws.{next_passed_within, next_passed_start}
 use Rattle.sff.proofs.reads.put_pairs.Goals as goal
 
@@ -56,10 +54,10 @@ loop-i-preserved c = let l = c.loop-i in
       passes_next g.d g.s.now g.n l.i l.there (omega arith) l.invariant.6 _ q,
     )
 
-pub returns-clause-value : goal.returns-clause-value
-returns-clause-value c = let l = c.loop-i in
-    let g = c.args in λ v k. sym (farther_end g.d g.s.now l.there) ∙ left_end _ g.n l.i _ l.invariant.1 l.invariant.2 (omega arith) ∙ farther_is g.d g.s.now g.n g.c v k
-
-pub returns-clause-out_after : goal.returns-clause-out_after
-returns-clause-out_after c = let l = c.loop-i in
-    let g = c.args in λ w v h k. lanes_end _ _ _ _ _ _ _ l.invariant.0 (omega arith) (numbers_none g.d g.s.now l.here) (numbers_none g.d g.s.now l.there) ∙ ap (λ (x : List ℕ). records 17 read_numbers (reads_at g.d.flows g.s.now x) ++ (records 17 read_numbers (reads_at g.d.flows g.s.now (along g.d g.s.now g.n g.c)) ++ drop (17 * g.n + 17 * g.n) g.out.now)) (along_is g.d g.s.now g.n g.b w h) ∙ ap (λ (x : List ℕ). records 17 read_numbers (reads_at g.d.flows g.s.now w.starts) ++ (records 17 read_numbers (reads_at g.d.flows g.s.now x) ++ drop (17 * g.n + 17 * g.n) g.out.now)) (along_is g.d g.s.now g.n g.c v k)
+pub returns : goal.returns
+returns c =
+    let l = c.loop-i in
+    record {
+      value = let g = c.args in λ v k. sym (farther_end g.d g.s.now l.there) ∙ left_end _ g.n l.i _ l.invariant.1 l.invariant.2 (omega arith) ∙ farther_is g.d g.s.now g.n g.c v k;
+      out_after = let g = c.args in λ w v h k. lanes_end _ _ _ _ _ _ _ l.invariant.0 (omega arith) (numbers_none g.d g.s.now l.here) (numbers_none g.d g.s.now l.there) ∙ ap (λ (x : List ℕ). records 17 read_numbers (reads_at g.d.flows g.s.now x) ++ (records 17 read_numbers (reads_at g.d.flows g.s.now (along g.d g.s.now g.n g.c)) ++ drop (17 * g.n + 17 * g.n) g.out.now)) (along_is g.d g.s.now g.n g.b w h) ∙ ap (λ (x : List ℕ). records 17 read_numbers (reads_at g.d.flows g.s.now w.starts) ++ (records 17 read_numbers (reads_at g.d.flows g.s.now x) ++ drop (17 * g.n + 17 * g.n) g.out.now)) (along_is g.d g.s.now g.n g.c v k);
+    }

@@ -1,19 +1,13 @@
-use Prim.Native.Nat.{ℕ, ◌+◌, ◌-◌, ◌*◌, ◌/◌, ◌≤◌}
-use mathlib.Core.List.{List, ◌++◌}
-use mathlib.Core.Path.{◌≡◌, sym, ◌∙◌, ap, subst}
-use native.Mathlib.Omega.{arith}
+use Prim.Native.Nat.{◌+◌, ◌-◌, ◌*◌, ◌≤◌}
+use mathlib.Core.List.{◌++◌}
 use lib.ListN.{length, drop}
-use borrow.Author.Rules.{rules}
-use Rattle.reading.proofs.Fill.{Lanes, lanes_start, lanes_next, lanes_end}
-use Rattle.reading.proofs.Loop.{Left, left_start, left_next, left_end}
-use Rattle.reading.specs.Bulk.{record_of, records}
-use Rattle.sff_fields.specs.Answers.{answer_of_read_found}
-use Rattle.sff_fields.proofs.record.Laws.{record_wide, two_written}
+use Rattle.reading.proofs.Fill.{Lanes}
+use Rattle.reading.proofs.Loop.{Left}
+use Rattle.reading.specs.Bulk.{records}
 use Rattle.sff.specs.Private.{Passes}
 use Rattle.sff.specs.Reads.{reads_at}
 use Rattle.sff_fields.specs.Parts.{read_numbers}
-use Rattle.sff.proofs.reads.Laws.{along, along_is, farther, farther_next, farther_end, farther_is, passes_first, passes_next, numbers_left, numbers_next, numbers_none}
-use Rattle.sff.proofs.walk.Laws.{next_passed_within, next_passed_start}
+use Rattle.sff.proofs.reads.Laws.{along, farther, numbers_left}
 use Rattle.sff.proofs.reads.put_pairs.Given as goal
 
 abbrev pub invariant-loop-i : goal.invariant-loop-i

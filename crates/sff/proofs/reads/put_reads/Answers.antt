@@ -1,17 +1,15 @@
-use Prim.Native.Nat.{ℕ, ◌-◌, ◌*◌, ◌/◌, ◌≤◌}
+use Prim.Native.Nat.{ℕ, ◌*◌}
 use mathlib.Core.List.{List, ◌++◌}
-use mathlib.Core.Path.{◌≡◌, ◌∙◌, ap, subst}
+use mathlib.Core.Path.{◌∙◌, ap}
 use native.Mathlib.Omega.{arith}
-use lib.ListN.{length, drop}
-use borrow.Author.Rules.{rules}
-use Rattle.reading.proofs.Fill.{Filling, fill_start, fill_record, fill_end}
+use lib.ListN.{drop}
+use Rattle.reading.proofs.Fill.{fill_record, fill_end}
 use Rattle.reading.specs.Bulk.{record_of, records}
 use Rattle.sff_fields.specs.Answers.{answer_of_read_found}
 use Rattle.sff_fields.proofs.record.Laws.{record_wide, one_written}
-use Rattle.sff.specs.Private.{Passes}
 use Rattle.sff.specs.Reads.{reads_at}
 use Rattle.sff_fields.specs.Parts.{read_numbers}
-use Rattle.sff.proofs.reads.Laws.{along, along_is, passes_first, passes_next, numbers_left, numbers_next, numbers_none}
+use Rattle.sff.proofs.reads.Laws.{along_is, passes_first, passes_next, numbers_next, numbers_none}
 use Rattle.sff.proofs.walk.Laws.{next_passed_within, next_passed_start}
 use Rattle.sff.proofs.reads.put_reads.Goals as goal
 

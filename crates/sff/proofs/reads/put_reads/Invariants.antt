@@ -1,18 +1,13 @@
-use Prim.Native.Nat.{ℕ, ◌-◌, ◌*◌, ◌/◌, ◌≤◌}
-use mathlib.Core.List.{List, ◌++◌}
-use mathlib.Core.Path.{◌≡◌, ◌∙◌, ap, subst}
-use native.Mathlib.Omega.{arith}
+use Prim.Native.Nat.{◌-◌, ◌*◌, ◌≤◌}
+use mathlib.Core.List.{◌++◌}
+use mathlib.Core.Path.{◌≡◌}
 use lib.ListN.{length, drop}
-use borrow.Author.Rules.{rules}
-use Rattle.reading.proofs.Fill.{Filling, fill_start, fill_record, fill_end}
-use Rattle.reading.specs.Bulk.{record_of, records}
-use Rattle.sff_fields.specs.Answers.{answer_of_read_found}
-use Rattle.sff_fields.proofs.record.Laws.{record_wide, one_written}
+use Rattle.reading.proofs.Fill.{Filling}
+use Rattle.reading.specs.Bulk.{records}
 use Rattle.sff.specs.Private.{Passes}
 use Rattle.sff.specs.Reads.{reads_at}
 use Rattle.sff_fields.specs.Parts.{read_numbers}
-use Rattle.sff.proofs.reads.Laws.{along, along_is, passes_first, passes_next, numbers_left, numbers_next, numbers_none}
-use Rattle.sff.proofs.walk.Laws.{next_passed_within, next_passed_start}
+use Rattle.sff.proofs.reads.Laws.{along, numbers_left}
 use Rattle.sff.proofs.reads.put_reads.Given as goal
 
 abbrev pub invariant-loop-i : goal.invariant-loop-i

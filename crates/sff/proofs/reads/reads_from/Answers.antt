@@ -3,7 +3,6 @@ use mathlib.Core.List.{◌++◌}
 use mathlib.Core.Path.{◌≡◌, sym, ◌∙◌, ap}
 use native.Mathlib.Omega.{arith}
 use lib.ListN.{length, drop}
-use borrow.Author.Rules.{rules}
 use Rattle.reading.specs.Bulk.{records}
 use Rattle.sff.specs.Reads.{reads_at}
 use Rattle.sff_fields.specs.Parts.{read_numbers}
@@ -33,80 +32,69 @@ put_halves-requires c = let g = c.args in
     let q = passage g.d (g.n - g.n / 2) (g.i + g.n / 2) _ g.s.now _ m in
     (w, past_within g.d g.s.now (g.n / 2) g.i _ _ w k, omega arith, c.requires.2, (p.0, walk_any g.d g.s.now (g.n / 2) g.i 0 _ p.0 p.1, p.2), (q.0, walk_any g.d g.s.now (g.n - g.n / 2) (g.i + g.n / 2) 0 _ q.0 q.1))
 
-pub returns-in-Failed-clause-result_value : goal.returns-in-Failed-clause-result_value
-returns-in-Failed-clause-result_value c = let g = c.args in
+pub returns-in-Failed : goal.returns-in-Failed
+returns-in-Failed c =
+    let g = c.args in
     let e = first_failed g.d g.n g.i g.s.now _ _ (sym c.walk.ensures ∙ ap outcome_of_walked c.in-Failed.is) in
-    rw (← e)
+    record {
+      result_value = rw (← e);
+      out_after = rw (← e);
+    }
 
-pub returns-in-Failed-clause-out_after : goal.returns-in-Failed-clause-out_after
-returns-in-Failed-clause-out_after c = let g = c.args in
-    let e = first_failed g.d g.n g.i g.s.now _ _ (sym c.walk.ensures ∙ ap outcome_of_walked c.in-Failed.is) in
-    rw (← e)
-
-pub returns-in-Short-clause-result_value : goal.returns-in-Short-clause-result_value
-returns-in-Short-clause-result_value c = let g = c.args in
+pub returns-in-Short : goal.returns-in-Short
+returns-in-Short c =
+    let g = c.args in
     let e = first_short g.d g.n g.i g.s.now _ _ (sym c.walk.ensures ∙ ap outcome_of_walked c.in-Short.is) in
-    rw (← e)
+    record {
+      result_value = rw (← e);
+      out_after = rw (← e);
+    }
 
-pub returns-in-Short-clause-out_after : goal.returns-in-Short-clause-out_after
-returns-in-Short-clause-out_after c = let g = c.args in
-    let e = first_short g.d g.n g.i g.s.now _ _ (sym c.walk.ensures ∙ ap outcome_of_walked c.in-Short.is) in
-    rw (← e)
-
-pub returns-in-Failed-walk-clause-result_value : goal.returns-in-Failed-walk-clause-result_value
-returns-in-Failed-walk-clause-result_value c = let g = c.args in
+pub returns-in-Failed-walk : goal.returns-in-Failed-walk
+returns-in-Failed-walk c =
+    let g = c.args in
     let h = sym c.walk.ensures ∙ ap outcome_of_walked c.in-Behind.is in
     let e = then_failed g.d g.n g.i g.s.now _ h _ _ (past_parts g.d g.s.now (g.n / 2) g.n g.i _ (omega arith) _ (sym c.walk-in-Behind.ensures ∙ ap outcome_of_walked c.in-Failed-walk.is)) in
-    rw (← e)
+    record {
+      result_value = rw (← e);
+      out_after = rw (← e);
+    }
 
-pub returns-in-Failed-walk-clause-out_after : goal.returns-in-Failed-walk-clause-out_after
-returns-in-Failed-walk-clause-out_after c = let g = c.args in
-    let h = sym c.walk.ensures ∙ ap outcome_of_walked c.in-Behind.is in
-    let e = then_failed g.d g.n g.i g.s.now _ h _ _ (past_parts g.d g.s.now (g.n / 2) g.n g.i _ (omega arith) _ (sym c.walk-in-Behind.ensures ∙ ap outcome_of_walked c.in-Failed-walk.is)) in
-    rw (← e)
-
-pub returns-in-Short-walk-clause-result_value : goal.returns-in-Short-walk-clause-result_value
-returns-in-Short-walk-clause-result_value c = let g = c.args in
+pub returns-in-Short-walk : goal.returns-in-Short-walk
+returns-in-Short-walk c =
+    let g = c.args in
     let h = sym c.walk.ensures ∙ ap outcome_of_walked c.in-Behind.is in
     let e = then_short g.d g.n g.i g.s.now _ h _ _ (past_parts g.d g.s.now (g.n / 2) g.n g.i _ (omega arith) _ (sym c.walk-in-Behind.ensures ∙ ap outcome_of_walked c.in-Short-walk.is)) in
-    rw (← e)
+    record {
+      result_value = rw (← e);
+      out_after = rw (← e);
+    }
 
-pub returns-in-Short-walk-clause-out_after : goal.returns-in-Short-walk-clause-out_after
-returns-in-Short-walk-clause-out_after c = let g = c.args in
-    let h = sym c.walk.ensures ∙ ap outcome_of_walked c.in-Behind.is in
-    let e = then_short g.d g.n g.i g.s.now _ h _ _ (past_parts g.d g.s.now (g.n / 2) g.n g.i _ (omega arith) _ (sym c.walk-in-Behind.ensures ∙ ap outcome_of_walked c.in-Short-walk.is)) in
-    rw (← e)
-
-pub returns-in-Failed-walk-2-clause-result_value : goal.returns-in-Failed-walk-2-clause-result_value
-returns-in-Failed-walk-2-clause-result_value c = let g = c.args in
+pub returns-in-Failed-walk-2 : goal.returns-in-Failed-walk-2
+returns-in-Failed-walk-2 c =
+    let g = c.args in
     let h = sym c.walk.ensures ∙ ap outcome_of_walked c.in-Behind.is in
     let k = past_parts g.d g.s.now (g.n / 2) g.n g.i _ (omega arith) _ (sym c.walk-in-Behind.ensures ∙ ap outcome_of_walked c.in-Behind-walk.is) in
     let e = then_failed g.d g.n g.i g.s.now _ h _ _ (k ∙ (sym c.walk-in-Behind-walk.ensures ∙ ap outcome_of_walked c.in-Failed-walk-2.is)) in
-    rw (← e)
+    record {
+      result_value = rw (← e);
+      out_after = rw (← e);
+    }
 
-pub returns-in-Failed-walk-2-clause-out_after : goal.returns-in-Failed-walk-2-clause-out_after
-returns-in-Failed-walk-2-clause-out_after c = let g = c.args in
-    let h = sym c.walk.ensures ∙ ap outcome_of_walked c.in-Behind.is in
-    let k = past_parts g.d g.s.now (g.n / 2) g.n g.i _ (omega arith) _ (sym c.walk-in-Behind.ensures ∙ ap outcome_of_walked c.in-Behind-walk.is) in
-    let e = then_failed g.d g.n g.i g.s.now _ h _ _ (k ∙ (sym c.walk-in-Behind-walk.ensures ∙ ap outcome_of_walked c.in-Failed-walk-2.is)) in
-    rw (← e)
-
-pub returns-in-Short-walk-2-clause-result_value : goal.returns-in-Short-walk-2-clause-result_value
-returns-in-Short-walk-2-clause-result_value c = let g = c.args in
+pub returns-in-Short-walk-2 : goal.returns-in-Short-walk-2
+returns-in-Short-walk-2 c =
+    let g = c.args in
     let h = sym c.walk.ensures ∙ ap outcome_of_walked c.in-Behind.is in
     let k = past_parts g.d g.s.now (g.n / 2) g.n g.i _ (omega arith) _ (sym c.walk-in-Behind.ensures ∙ ap outcome_of_walked c.in-Behind-walk.is) in
     let e = then_short g.d g.n g.i g.s.now _ h _ _ (k ∙ (sym c.walk-in-Behind-walk.ensures ∙ ap outcome_of_walked c.in-Short-walk-2.is)) in
-    rw (← e)
+    record {
+      result_value = rw (← e);
+      out_after = rw (← e);
+    }
 
-pub returns-in-Short-walk-2-clause-out_after : goal.returns-in-Short-walk-2-clause-out_after
-returns-in-Short-walk-2-clause-out_after c = let g = c.args in
-    let h = sym c.walk.ensures ∙ ap outcome_of_walked c.in-Behind.is in
-    let k = past_parts g.d g.s.now (g.n / 2) g.n g.i _ (omega arith) _ (sym c.walk-in-Behind.ensures ∙ ap outcome_of_walked c.in-Behind-walk.is) in
-    let e = then_short g.d g.n g.i g.s.now _ h _ _ (k ∙ (sym c.walk-in-Behind-walk.ensures ∙ ap outcome_of_walked c.in-Short-walk-2.is)) in
-    rw (← e)
-
-pub returns-in-Behind-walk-2-clause-result_value : goal.returns-in-Behind-walk-2-clause-result_value
-returns-in-Behind-walk-2-clause-result_value c = let g = c.args in
+pub returns-in-Behind-walk-2 : goal.returns-in-Behind-walk-2
+returns-in-Behind-walk-2 c =
+    let g = c.args in
     let h = sym c.walk.ensures ∙ ap outcome_of_walked c.in-Behind.is in
     let j = past_parts g.d g.s.now (g.n / 2) g.n g.i _ (omega arith) _ (sym c.walk-in-Behind.ensures ∙ ap outcome_of_walked c.in-Behind-walk.is) in
     let k = j ∙ (sym c.walk-in-Behind-walk.ensures ∙ ap outcome_of_walked c.in-Behind-walk-2.is) in
@@ -115,16 +103,7 @@ returns-in-Behind-walk-2-clause-result_value c = let g = c.args in
     let m = reads_counted g.d g.n g.i g.s.now _ h _ k c.requires.0 in
     let l = records_length (reads_at g.d.flows g.s.now w.0.starts) in
     let t : length (records 17 read_numbers (reads_at g.d.flows g.s.now w.0.starts)) ≡ 17 * g.n = omega arith in
-    rw (e, m)
-
-pub returns-in-Behind-walk-2-clause-out_after : goal.returns-in-Behind-walk-2-clause-out_after
-returns-in-Behind-walk-2-clause-out_after c = let g = c.args in
-    let h = sym c.walk.ensures ∙ ap outcome_of_walked c.in-Behind.is in
-    let j = past_parts g.d g.s.now (g.n / 2) g.n g.i _ (omega arith) _ (sym c.walk-in-Behind.ensures ∙ ap outcome_of_walked c.in-Behind-walk.is) in
-    let k = j ∙ (sym c.walk-in-Behind-walk.ensures ∙ ap outcome_of_walked c.in-Behind-walk-2.is) in
-    let w = over g.d g.n g.i g.s.now _ h _ k c.requires.0 in
-    let e = reads_answered g.d g.n g.i g.s.now _ h _ k c.requires.0 in
-    let m = reads_counted g.d g.n g.i g.s.now _ h _ k c.requires.0 in
-    let l = records_length (reads_at g.d.flows g.s.now w.0.starts) in
-    let t : length (records 17 read_numbers (reads_at g.d.flows g.s.now w.0.starts)) ≡ 17 * g.n = omega arith in
-    rw e (c.put_halves.ensures w.0 w.1 ∙ ap (λ (i : ℕ). records 17 read_numbers (reads_at g.d.flows g.s.now w.0.starts) ++ drop i g.out.now) (sym t))
+    record {
+      result_value = rw (e, m);
+      out_after = rw e (c.put_halves.ensures w.0 w.1 ∙ ap (λ (i : ℕ). records 17 read_numbers (reads_at g.d.flows g.s.now w.0.starts) ++ drop i g.out.now) (sym t));
+    }

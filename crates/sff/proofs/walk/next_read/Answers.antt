@@ -1,5 +1,4 @@
 use mathlib.Core.Path.{sym, ◌∙◌, ap}
-use borrow.Author.Rules.{rules}
 use Rattle.reading.proofs.Cut.{run_ok}
 use Rattle.reading.specs.Answers.{outcome_of_ended}
 use Rattle.sff.specs.Answers.{outcome_of_skipped}

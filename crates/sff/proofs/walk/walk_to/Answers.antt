@@ -1,6 +1,4 @@
 use mathlib.Core.Path.{sym, ◌∙◌, ap}
-use native.Mathlib.Omega.{arith}
-use borrow.Author.Rules.{rules}
 use Rattle.sff.specs.Answers.{outcome_of_walked}
 use Rattle.sff.proofs.walk.Laws.{before_none, before_past, before_found}
 use Rattle.sff.proofs.walk.walk_to.Goals as goal

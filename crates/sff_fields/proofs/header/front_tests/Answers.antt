@@ -1,7 +1,6 @@
 use mathlib.Core.Path.{sym, ◌∙◌, ap}
 use Rattle.reading.specs.Answers.{outcome_of_tested}
 use Rattle.sff_fields.proofs.header.Laws.{front_mark, front_length, front_index}
-use borrow.Author.Rules.{rules}
 use Rattle.sff_fields.proofs.header.front_tests.Goals as goal
 
 pub returns-in-Failed : goal.returns-in-Failed

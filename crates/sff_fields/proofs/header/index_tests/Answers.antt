@@ -1,7 +1,6 @@
 use Rattle.reading.specs.Check.{run}
 use Rattle.reading.proofs.Tests.{tests}
 use Rattle.sff_fields.specs.Header.{index_check}
-use borrow.Author.Rules.{rules}
 use Rattle.sff_fields.proofs.header.index_tests.Goals as goal
 
 pub returns-then-d-ne0 : goal.returns-then-d-ne0

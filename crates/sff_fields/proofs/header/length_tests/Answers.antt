@@ -1,7 +1,6 @@
 use Rattle.reading.specs.Check.{run}
 use Rattle.reading.proofs.Tests.{tests}
 use Rattle.sff_fields.specs.Header.{length_check}
-use borrow.Author.Rules.{rules}
 use Rattle.sff_fields.proofs.header.length_tests.Goals as goal
 
 pub returns-then-code-ne-FORMAT_CODE : goal.returns-then-code-ne-FORMAT_CODE

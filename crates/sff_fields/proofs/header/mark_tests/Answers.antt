@@ -1,7 +1,6 @@
 use Rattle.reading.specs.Check.{run}
 use Rattle.reading.proofs.Tests.{tests}
 use Rattle.sff_fields.specs.Header.{mark_check}
-use borrow.Author.Rules.{rules}
 use Rattle.sff_fields.proofs.header.mark_tests.Goals as goal
 
 pub returns-then-mark-ne-SFF_MARK : goal.returns-then-mark-ne-SFF_MARK

@@ -1,7 +1,6 @@
 use mathlib.Core.Path.{refl}
 use native.Mathlib.Omega.{arith}
 use Rattle.sff_fields.specs.Padding.{padding}
-use borrow.Author.Rules.{rules}
 use Rattle.sff_fields.proofs.padding.padding_behind.Goals as goal
 
 pub returns : goal.returns

@@ -2,7 +2,6 @@ use Prim.Native.Nat.{ℕ, ◌+◌}
 use mathlib.Core.Path.{ap}
 use native.Mathlib.Omega.{arith}
 use Rattle.sff_fields.specs.Padding.{padded}
-use borrow.Author.Rules.{rules}
 use Rattle.sff_fields.proofs.padding.round_up.Goals as goal
 
 pub returns : goal.returns

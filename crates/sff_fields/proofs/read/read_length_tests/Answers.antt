@@ -1,7 +1,6 @@
 use Rattle.reading.specs.Check.{run}
 use Rattle.reading.proofs.Tests.{tests}
 use Rattle.sff_fields.specs.Read.{read_length_check}
-use borrow.Author.Rules.{rules}
 use Rattle.sff_fields.proofs.read.read_length_tests.Goals as goal
 
 pub returns-then-stated-expected : goal.returns-then-stated-expected

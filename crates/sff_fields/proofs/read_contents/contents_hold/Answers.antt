@@ -1,5 +1,4 @@
 use Rattle.sff_fields.proofs.read_contents.Laws.{contents_clips, contents_steps}
-use borrow.Author.Rules.{rules}
 use Rattle.sff_fields.proofs.read_contents.contents_hold.Goals as goal
 
 pub returns-then-hold : goal.returns-then-hold

@@ -4,7 +4,6 @@ use lib.ListN.{length}
 use Rattle.sff_fields.proofs.padding.Laws.{padded_bounds}
 use Rattle.sff_write.proofs.read.Laws.{size_is}
 use Rattle.sff_write.proofs.header.Laws.{header_put}
-use borrow.Author.Rules.{rules}
 use Rattle.sff_write.proofs.header.put_header.Goals as goal
 
 pub overflow_add-n-2 : goal.overflow_add-n-2

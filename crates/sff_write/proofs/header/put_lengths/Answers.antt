@@ -1,5 +1,4 @@
 use Rattle.sff_write.proofs.header.Laws.{lengths_put}
-use borrow.Author.Rules.{rules}
 use Rattle.sff_write.proofs.header.put_lengths.Goals as goal
 
 pub returns : goal.returns

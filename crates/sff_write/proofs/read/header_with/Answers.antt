@@ -2,7 +2,6 @@ use Prim.Native.Nat.{◌+◌}
 use native.Mathlib.Omega.{arith}
 use Rattle.sff_fields.proofs.padding.Laws.{padded_bounds}
 use Rattle.sff_write.proofs.read.Laws.{size_is, header_is}
-use borrow.Author.Rules.{rules}
 use Rattle.sff_write.proofs.read.header_with.Goals as goal
 
 pub overflow_add-size : goal.overflow_add-size

@@ -1,6 +1,5 @@
 use Rattle.sff_write.specs.Read.{given_read}
 use Rattle.sff_write.proofs.read.Laws.{lengths_name, lengths_few, lengths_flows, lengths_steps, lengths_qualities, lengths_bases, lengths_clips}
-use borrow.Author.Rules.{rules}
 use Rattle.sff_write.proofs.read.lengths_hold.Goals as goal
 
 pub returns-then-count-gt65535 : goal.returns-then-count-gt65535

@@ -1,6 +1,5 @@
 use native.Mathlib.Omega.{arith}
 use Rattle.sff_write.proofs.read.Laws.{name_long, name_is}
-use borrow.Author.Rules.{rules}
 use Rattle.sff_write.proofs.read.name_fits.Goals as goal
 
 pub returns-then-n-gt65535 : goal.returns-then-n-gt65535

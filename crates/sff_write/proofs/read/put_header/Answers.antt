@@ -1,5 +1,4 @@
 use Rattle.sff_write.proofs.read.Laws.{header_put}
-use borrow.Author.Rules.{rules}
 use Rattle.sff_write.proofs.read.put_header.Goals as goal
 
 pub returns : goal.returns

@@ -3,7 +3,6 @@ use native.Mathlib.Omega.{arith}
 use lib.ListN.{length}
 use Rattle.sff_write.specs.Read.{given_read}
 use Rattle.sff_write.proofs.read.Laws.{size_is, length_read, read_put}
-use borrow.Author.Rules.{rules}
 use Rattle.sff_write.proofs.read.put_read.Goals as goal
 
 pub put_header-requires : goal.put_header-requires

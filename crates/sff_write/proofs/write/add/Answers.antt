@@ -6,7 +6,6 @@ use Rattle.sff_write.specs.Write.{adding}
 use Rattle.sff_write.specs.Answers.{answer_of_advanced}
 use Rattle.sff_write.proofs.read.Laws.{fitting, lengths_ok}
 use Rattle.sff_write.proofs.write.Laws.{told_refused, add_past, add_lengths, add_told}
-use borrow.Author.Rules.{rules}
 use Rattle.sff_write.proofs.write.add.Goals as goal
 
 pub returns-then-w : goal.returns-then-w

@@ -7,7 +7,6 @@ use Rattle.sff_fields.proofs.padding.Laws.{padded_bounds}
 use Rattle.sff_write.specs.Read.{given_read}
 use Rattle.sff_write.specs.Write.{adding_fit}
 use Rattle.sff_write.proofs.write.Laws.{told_refused, fit_answer, fit_size, fit_length, fit_contents, fit_room, fit_written}
-use borrow.Author.Rules.{rules}
 use Rattle.sff_write.proofs.write.add_fitting.Goals as goal
 
 pub returns-then-out-size : goal.returns-then-out-size

@@ -6,7 +6,6 @@ use Rattle.reading.specs.Check.{answer}
 use Rattle.sff_write.specs.Write.{beginning}
 use Rattle.sff_write.proofs.read.Laws.{size_is}
 use Rattle.sff_write.proofs.write.Laws.{told_refused, begin_flows, begin_key, begin_size, begin_room, begin_written}
-use borrow.Author.Rules.{rules}
 use Rattle.sff_write.proofs.write.begin.Goals as goal
 
 pub returns-then-n-gt65535 : goal.returns-then-n-gt65535

@@ -1,8 +1,5 @@
-use Prim.Native.Nat.{◌≤◌, ◌-◌}
-use mathlib.Core.Path.{◌≡◌, refl}
 use native.Mathlib.Omega.{arith}
-use lib.ListN.{length, length-set, replicate, length-replicate}
-use lib.Seq.{paste, paste-zero}
+use lib.ListN.{length-set, length-replicate}
 use Rattle.writing.proofs.Over.{put_none, zeros_next, zeros_end}
 use Rattle.writing.proofs.bytes.put_zeros.Goals as goal
 

@@ -1,9 +1,7 @@
 use Prim.Native.Nat.{◌≤◌, ◌-◌}
-use mathlib.Core.Path.{◌≡◌, refl}
-use native.Mathlib.Omega.{arith}
-use lib.ListN.{length, length-set, replicate, length-replicate}
-use lib.Seq.{paste, paste-zero}
-use Rattle.writing.proofs.Over.{put_none, zeros_next, zeros_end}
+use mathlib.Core.Path.{◌≡◌}
+use lib.ListN.{length, replicate}
+use lib.Seq.{paste}
 use Rattle.writing.proofs.bytes.put_zeros.Given as goal
 
 abbrev pub invariant-loop-i : goal.invariant-loop-i

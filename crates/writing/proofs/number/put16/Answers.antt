@@ -1,8 +1,6 @@
 use native.Mathlib.Omega.{arith}
-use lib.ListN.{length-set}
 use Rattle.writing.specs.Put.{digits}
 use Rattle.writing.proofs.Over.{put_none, put2}
-use borrow.Author.Rules.{rules}
 use Rattle.writing.proofs.number.put16.Goals as goal
 
 pub returns-then-out-lt2 : goal.returns-then-out-lt2

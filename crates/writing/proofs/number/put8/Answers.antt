@@ -1,7 +1,6 @@
 use native.Mathlib.Omega.{arith}
 use Rattle.writing.specs.Put.{digits}
 use Rattle.writing.proofs.Over.{put_none, put1}
-use borrow.Author.Rules.{rules}
 use Rattle.writing.proofs.number.put8.Goals as goal
 
 pub returns-then-out-p : goal.returns-then-out-p

@@ -1,12 +1,6 @@
-use Prim.Native.Nat.{◌-◌, ◌+◌, ◌*◌}
-use mathlib.Core.Path.{◌≡◌, refl}
-use mathlib.Core.List.{◌++◌}
+use mathlib.Core.Path.{refl}
 use native.Mathlib.Omega.{arith}
-use lib.ListN.{length-set, take}
-use borrow.Author.Rules.{rules}
-use Rattle.writing.specs.Put.{words}
 use Rattle.writing.proofs.Over.{put_none, put2}
-use Rattle.writing.proofs.Begun.{Begun, begun_start}
 use Rattle.writing.proofs.Words.{length_words, words_next, words_end}
 use Rattle.writing.proofs.number.put_words.Goals as goal
 

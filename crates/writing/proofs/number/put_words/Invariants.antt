@@ -1,13 +1,9 @@
 use Prim.Native.Nat.{◌-◌, ◌+◌, ◌*◌}
-use mathlib.Core.Path.{◌≡◌, refl}
+use mathlib.Core.Path.{◌≡◌}
 use mathlib.Core.List.{◌++◌}
-use native.Mathlib.Omega.{arith}
-use lib.ListN.{length-set, take}
-use borrow.Author.Rules.{rules}
+use lib.ListN.{take}
 use Rattle.writing.specs.Put.{words}
-use Rattle.writing.proofs.Over.{put_none, put2}
-use Rattle.writing.proofs.Begun.{Begun, begun_start}
-use Rattle.writing.proofs.Words.{length_words, words_next, words_end}
+use Rattle.writing.proofs.Begun.{Begun}
 use Rattle.writing.proofs.number.put_words.Given as goal
 
 abbrev pub invariant-loop-i : goal.invariant-loop-i
