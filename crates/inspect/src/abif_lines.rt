@@ -4,58 +4,61 @@ use abif::directory::{Opened, open};
 use abif::judge::judge;
 use abif_file::entry::{EntryFound, RawEntry, entry};
 use reading::verdict::Verdict;
+use std::io;
+use std::io::Write;
 
 // Data of 4 bytes or fewer stand in the entry itself.
-fn put_place(d: RawEntry) {
+fn put_place<W: Write>(to: &mut W, d: RawEntry) -> io::Result<()> {
     if d.data_size <= 4 {
-        put(b" inline\n");
-        return;
+        return put(to, b" inline\n");
     }
-    put(b" at ");
-    put_signed(d.data_offset);
-    put(b"\n");
+    put(to, b" at ")?;
+    put_signed(to, d.data_offset)?;
+    put(to, b"\n")
 }
 
-fn put_type(code: i16) {
-    put(b" type ");
-    put_signed(code as i32);
+fn put_type<W: Write>(to: &mut W, code: i16) -> io::Result<()> {
+    put(to, b" type ")?;
+    put_signed(to, code as i32)
 }
 
-fn put_entry(d: RawEntry) {
-    put_name(d.name);
-    put(b" ");
-    put_signed(d.number);
-    put_type(d.element_type);
-    put(b" count ");
-    put_signed(d.element_count);
-    put(b" size ");
-    put_signed(d.data_size);
-    put_place(d);
+fn put_entry<W: Write>(to: &mut W, d: RawEntry) -> io::Result<()> {
+    put_name(to, d.name)?;
+    put(to, b" ")?;
+    put_signed(to, d.number)?;
+    put_type(to, d.element_type)?;
+    put(to, b" count ")?;
+    put_signed(to, d.element_count)?;
+    put(to, b" size ")?;
+    put_signed(to, d.data_size)?;
+    put_place(to, d)
 }
 
-fn put_entry_at(s: &[u8], index: u64) {
+fn put_entry_at<W: Write>(to: &mut W, s: &[u8], index: u64) -> io::Result<()> {
     if let EntryFound::At(d) = entry(s, index) {
-        put_entry(d);
+        put_entry(to, d)?;
     }
+    Ok(())
 }
 
-fn put_entries(s: &[u8], count: u32) {
-    let mut i = 0;
-    while i < count {
-        i += 1;
-        put_entry_at(s, i as u64);
+// Entries are counted from 1.
+fn put_entries<W: Write>(to: &mut W, s: &[u8], count: u32) -> io::Result<()> {
+    for i in 1..=count {
+        put_entry_at(to, s, i as u64)?;
     }
+    Ok(())
 }
 
-pub(crate) fn put_file(s: &[u8]) {
+pub(crate) fn put_file<W: Write>(to: &mut W, s: &[u8]) -> io::Result<()> {
     match judge(s) {
-        Verdict::Refused { number, entry } => put_refused(b"ABIF", number, entry),
+        Verdict::Refused { number, entry } => put_refused(to, b"ABIF", number, entry),
         Verdict::Whole { extent, tail } => {
-            put_extent(b"ABIF", extent, s.len());
-            put_tail(tail);
+            put_extent(to, b"ABIF", extent, s.len())?;
+            put_tail(to, tail)?;
             if let Opened::At { place: _, count } = open(s) {
-                put_entries(s, count);
+                put_entries(to, s, count)?;
             }
+            Ok(())
         }
     }
 }

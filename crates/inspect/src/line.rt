@@ -2,33 +2,29 @@
 ghost use Rattle.std.specs.Prelude.{◌≡◌, nat_abs};
 ghost use Rattle.inspect.specs.Line.{printable_byte, name_text};
 
-use libc::STDOUT_FILENO;
-use reading::number::bits32;
+use std::io;
+use std::io::Write;
 
-pub(crate) fn put(text: &[u8]) {
-    io::write_all(STDOUT_FILENO, text);
+pub(crate) fn put<W: Write>(to: &mut W, text: &[u8]) -> io::Result<()> {
+    to.write_all(text)
 }
 
-pub(crate) fn put_number(n: u64) {
-    io::print_decimal(STDOUT_FILENO, n);
+pub(crate) fn put_number<W: Write>(to: &mut W, n: u64) -> io::Result<()> {
+    write!(to, "{n}")
 }
 
-// How far n is from zero, told by its 32 bits.
+// How far n is from zero.
 fn magnitude(n: i32) -> u64
     ensures { result ≡ nat_abs n }
 {
-    let bits = bits32(n) as u64;
-    if bits < 0x8000_0000 {
-        return bits;
-    }
-    0x1_0000_0000 - bits
+    n.unsigned_abs() as u64
 }
 
-pub(crate) fn put_signed(n: i32) {
+pub(crate) fn put_signed<W: Write>(to: &mut W, n: i32) -> io::Result<()> {
     if n < 0 {
-        put(b"-");
+        put(to, b"-")?;
     }
-    put_number(magnitude(n));
+    put_number(to, magnitude(n))
 }
 
 // A byte that is no printable character of ASCII shows as a dot.
@@ -55,33 +51,43 @@ fn name_text(name: u32) -> [u8; 4]
     [a, b, c, d]
 }
 
-pub(crate) fn put_name(name: u32) {
+pub(crate) fn put_name<W: Write>(to: &mut W, name: u32) -> io::Result<()> {
     let text = name_text(name);
-    put(&text);
+    put(to, &text)
 }
 
 // What a whole file's line begins with in every format.
-pub(crate) fn put_extent(format: &[u8], extent: usize, length: usize) {
-    put(format);
-    put(b" whole ");
-    put_number(extent as u64);
-    put(b" of ");
-    put_number(length as u64);
+pub(crate) fn put_extent<W: Write>(
+    to: &mut W,
+    format: &[u8],
+    extent: usize,
+    length: usize,
+) -> io::Result<()> {
+    put(to, format)?;
+    put(to, b" whole ")?;
+    put_number(to, extent as u64)?;
+    put(to, b" of ")?;
+    put_number(to, length as u64)
 }
 
 // What a whole file's line ends with in every format: how many bytes lie after the extent.
-pub(crate) fn put_tail(tail: usize) {
-    put(b" tail ");
-    put_number(tail as u64);
-    put(b"\n");
+pub(crate) fn put_tail<W: Write>(to: &mut W, tail: usize) -> io::Result<()> {
+    put(to, b" tail ")?;
+    put_number(to, tail as u64)?;
+    put(to, b"\n")
 }
 
 // A refused file's line.
-pub(crate) fn put_refused(format: &[u8], number: u8, entry: usize) {
-    put(format);
-    put(b" refused ");
-    put_number(number as u64);
-    put(b" at ");
-    put_number(entry as u64);
-    put(b"\n");
+pub(crate) fn put_refused<W: Write>(
+    to: &mut W,
+    format: &[u8],
+    number: u8,
+    entry: usize,
+) -> io::Result<()> {
+    put(to, format)?;
+    put(to, b" refused ")?;
+    put_number(to, number as u64)?;
+    put(to, b" at ")?;
+    put_number(to, entry as u64)?;
+    put(to, b"\n")
 }

@@ -1,5 +1,8 @@
 // Tells of the file on standard input, in lines on standard output.
 #![tactic(auto)]
+
+ghost use Rattle.std.specs.Io.{ReadsAtMost};
+
 mod abif_lines;
 mod gtc_lines;
 mod input;
@@ -8,21 +11,37 @@ mod sff_lines;
 
 use crate::input::{Input, input_of};
 use crate::line::put;
-use libc::STDIN_FILENO;
+use std::io;
+use std::io::{Read, Write};
 
-fn report(s: &[u8]) {
+// Reads until the buffer is full or the input ends, and tells how many bytes it put at the buffer's start.
+fn read_full<R: Read>(from: &mut R, buffer: &mut [u8]) -> io::Result<usize>
+    ensures { ReadsAtMost result buffer.new }
+{
+    let mut done = 0;
+    while done < buffer.len() {
+        let n = from.read(&mut buffer[done..])?;
+        if n == 0 {
+            break;
+        }
+        done += n;
+    }
+    Ok(done)
+}
+
+fn report<W: Write>(to: &mut W, s: &[u8]) -> io::Result<()> {
     match input_of(s) {
-        Input::TooLong => put(b"too long\n"),
-        Input::Unknown => put(b"unknown\n"),
-        Input::Abif => abif_lines::put_file(s),
-        Input::Sff => sff_lines::put_file(s),
-        Input::Gtc => gtc_lines::put_file(s),
+        Input::TooLong => put(to, b"too long\n"),
+        Input::Unknown => put(to, b"unknown\n"),
+        Input::Abif => abif_lines::put_file(to, s),
+        Input::Sff => sff_lines::put_file(to, s),
+        Input::Gtc => gtc_lines::put_file(to, s),
     }
 }
 
-fn main() {
+fn main(rt: HostRuntime) -> io::Result<()> {
     // one byte more than a file may have, so that a longer one is seen
     let mut buffer = [0u8; 65537];
-    let n = io::read_full(STDIN_FILENO, &mut buffer);
-    report(&buffer[..n]);
+    let n = read_full(&mut rt.reader(), &mut buffer)?;
+    report(&mut io::writer(&rt), &buffer[..n])
 }

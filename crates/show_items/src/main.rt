@@ -1,93 +1,108 @@
 // Runs the calls that no C function reaches, on the GTC file on standard input: the parts that an id or a transformation's number hands back,
 // found and refused, and what genotype codes mean.
 #![tactic(auto)]
+
+ghost use Rattle.std.specs.Io.{ReadsAtMost};
+
 use gtc::lookup::data_part;
 use gtc_records::genotype::{Decoded, Genotype, genotype_of};
 use gtc_records::transformation::transformation_part;
-use libc::{STDIN_FILENO, STDOUT_FILENO};
+use std::io;
+use std::io::{Read, Write};
 
-fn put(text: &[u8]) {
-    io::write_all(STDOUT_FILENO, text);
+// Reads until the buffer is full or the input ends, and tells how many bytes it put at the buffer's start.
+fn read_full<R: Read>(from: &mut R, buffer: &mut [u8]) -> io::Result<usize>
+    ensures { ReadsAtMost result buffer.new }
+{
+    let mut done = 0;
+    while done < buffer.len() {
+        let n = from.read(&mut buffer[done..])?;
+        if n == 0 {
+            break;
+        }
+        done += n;
+    }
+    Ok(done)
+}
+
+fn put<W: Write>(to: &mut W, text: &[u8]) -> io::Result<()> {
+    to.write_all(text)
 }
 
 // A part as its length and its bytes.
-fn put_part(part: &[u8]) {
-    io::print_decimal(STDOUT_FILENO, part.len() as u64);
-    put(b" ");
-    put(part);
-    put(b"\n");
+fn put_part<W: Write>(to: &mut W, part: &[u8]) -> io::Result<()> {
+    write!(to, "{} ", part.len())?;
+    put(to, part)?;
+    put(to, b"\n")
 }
 
 // The letters of a genotype, A before B.
-fn put_letters(ploidy: u8, b_alleles: u8) {
-    let mut left = ploidy;
-    while 0 < left {
+fn put_letters<W: Write>(to: &mut W, ploidy: u8, b_alleles: u8) -> io::Result<()> {
+    for left in (1..=ploidy).rev() {
         if left <= b_alleles {
-            put(b"B");
+            put(to, b"B")?;
         } else {
-            put(b"A");
+            put(to, b"A")?;
         }
-        left -= 1;
     }
+    Ok(())
 }
 
-fn put_genotype(g: Genotype) {
+fn put_genotype<W: Write>(to: &mut W, g: Genotype) -> io::Result<()> {
     match g {
-        Genotype::NoCall => put(b"NC"),
-        Genotype::Null => put(b"NULL"),
-        Genotype::Alleles { ploidy, b_alleles } => put_letters(ploidy, b_alleles),
+        Genotype::NoCall => put(to, b"NC"),
+        Genotype::Null => put(to, b"NULL"),
+        Genotype::Alleles { ploidy, b_alleles } => put_letters(to, ploidy, b_alleles),
     }
 }
 
 // What a genotype's code means, or the refusal.
-fn put_code(code: u8) {
+fn put_code<W: Write>(to: &mut W, code: u8) -> io::Result<()> {
     match genotype_of(code) {
-        Decoded::Is(g) => put_genotype(g),
-        Decoded::Refused(n) => {
-            put(b"refused ");
-            io::print_decimal(STDOUT_FILENO, n as u64);
-        }
+        Decoded::Is(g) => put_genotype(to, g)?,
+        Decoded::Refused(n) => write!(to, "refused {n}")?,
     }
-    put(b"\n");
+    put(to, b"\n")
 }
 
 // A value, a string, one element for each SNP, transformations, scanner data, a block and an empty array; then an id that is missing, one that
 // stands twice and one that Table 3 does not list.
-fn put_items(s: &[u8]) {
-    put_part(data_part(s, 1010));
-    put_part(data_part(s, 10));
-    put_part(data_part(s, 1003));
-    put_part(data_part(s, 400));
-    put_part(data_part(s, 1005));
-    put_part(data_part(s, 1011));
-    put_part(data_part(s, 500));
-    put_part(data_part(s, 11));
-    put_part(data_part(s, 12));
-    put_part(data_part(s, 999));
+fn put_items<W: Write>(to: &mut W, s: &[u8]) -> io::Result<()> {
+    put_part(to, data_part(s, 1010))?;
+    put_part(to, data_part(s, 10))?;
+    put_part(to, data_part(s, 1003))?;
+    put_part(to, data_part(s, 400))?;
+    put_part(to, data_part(s, 1005))?;
+    put_part(to, data_part(s, 1011))?;
+    put_part(to, data_part(s, 500))?;
+    put_part(to, data_part(s, 11))?;
+    put_part(to, data_part(s, 12))?;
+    put_part(to, data_part(s, 999))
 }
 
 // The file has two transformations.
-fn put_transformations(s: &[u8]) {
-    put_part(transformation_part(s, 0));
-    put_part(transformation_part(s, 1));
-    put_part(transformation_part(s, 2));
-    put_part(transformation_part(s, 3));
+fn put_transformations<W: Write>(to: &mut W, s: &[u8]) -> io::Result<()> {
+    put_part(to, transformation_part(s, 0))?;
+    put_part(to, transformation_part(s, 1))?;
+    put_part(to, transformation_part(s, 2))?;
+    put_part(to, transformation_part(s, 3))
 }
 
-fn put_codes() {
-    put_code(0);
-    put_code(4);
-    put_code(1);
-    put_code(13);
-    put_code(45);
-    put_code(46);
+fn put_codes<W: Write>(to: &mut W) -> io::Result<()> {
+    put_code(to, 0)?;
+    put_code(to, 4)?;
+    put_code(to, 1)?;
+    put_code(to, 13)?;
+    put_code(to, 45)?;
+    put_code(to, 46)
 }
 
-fn main() {
-    let mut buffer = io::buffer();
-    let n = io::read_full(STDIN_FILENO, &mut buffer);
+fn main(rt: HostRuntime) -> io::Result<()> {
+    let mut buffer = [0u8; 4096];
+    let n = read_full(&mut rt.reader(), &mut buffer)?;
     let s = &buffer[..n];
-    put_items(s);
-    put_transformations(s);
-    put_codes();
+    let to = &mut io::writer(&rt);
+    put_items(to, s)?;
+    put_transformations(to, s)?;
+    put_codes(to)
 }

@@ -1,13 +1,32 @@
 // Runs the calls of an opened file, none of which a C function reaches, on the ABIF file on standard input: with the place and count that opening
 // gives, with others, and on a file that is cut short.
 #![tactic(auto)]
+
+ghost use Rattle.std.specs.Io.{ReadsAtMost};
+
 use abif_elements::element::Element;
 use abif_elements::text::Text;
 use abif_file::file;
 use abif_file::file::AbifFile;
-use libc::{STDIN_FILENO, STDOUT_FILENO};
 use reading::item::Found;
 use reading::part::part;
+use std::io;
+use std::io::{Read, Write};
+
+// Reads until the buffer is full or the input ends, and tells how many bytes it put at the buffer's start.
+fn read_full<R: Read>(from: &mut R, buffer: &mut [u8]) -> io::Result<usize>
+    ensures { ReadsAtMost result buffer.new }
+{
+    let mut done = 0;
+    while done < buffer.len() {
+        let n = from.read(&mut buffer[done..])?;
+        if n == 0 {
+            break;
+        }
+        done += n;
+    }
+    Ok(done)
+}
 
 // A directory's place and count.
 #[derive(Clone, Copy)]
@@ -92,44 +111,44 @@ fn element_in(s: &[u8], place: u64, count: u64, name: u32, number: u32, index: u
 }
 
 // A number, and what parts it from the next.
-fn put_number(n: u64, end: &[u8]) {
-    io::print_decimal(STDOUT_FILENO, n);
-    io::write_all(STDOUT_FILENO, end);
+fn put_number<W: Write>(to: &mut W, n: u64, end: &[u8]) -> io::Result<()> {
+    write!(to, "{n}")?;
+    to.write_all(end)
 }
 
 // A refusal, by its number.
-fn put_refused(n: u8) {
-    io::write_all(STDOUT_FILENO, b"refused ");
-    put_number(n as u64, b"\n");
+fn put_refused<W: Write>(to: &mut W, n: u8) -> io::Result<()> {
+    to.write_all(b"refused ")?;
+    put_number(to, n as u64, b"\n")
 }
 
 // A part as its length and its bytes.
-fn put_part(part: &[u8]) {
-    put_number(part.len() as u64, b" ");
-    io::write_all(STDOUT_FILENO, part);
-    io::write_all(STDOUT_FILENO, b"\n");
+fn put_part<W: Write>(to: &mut W, part: &[u8]) -> io::Result<()> {
+    put_number(to, part.len() as u64, b" ")?;
+    to.write_all(part)?;
+    to.write_all(b"\n")
 }
 
 // The type, the count, the start and the length, or the refusal.
-fn put_found(r: Found) {
+fn put_found<W: Write>(to: &mut W, r: Found) -> io::Result<()> {
     match r {
-        Found::Refused(n) => put_refused(n),
+        Found::Refused(n) => put_refused(to, n),
         Found::Data(d) => {
-            put_number(d.code as u64, b" ");
-            put_number(d.count as u64, b" ");
-            put_number(d.start as u64, b" ");
-            put_number(d.size as u64, b"\n");
+            put_number(to, d.code as u64, b" ")?;
+            put_number(to, d.count as u64, b" ")?;
+            put_number(to, d.start as u64, b" ")?;
+            put_number(to, d.size as u64, b"\n")
         }
     }
 }
 
 // The start and the length, or the refusal.
-fn put_text(r: Text) {
+fn put_text<W: Write>(to: &mut W, r: Text) -> io::Result<()> {
     match r {
-        Text::Refused(n) => put_refused(n),
+        Text::Refused(n) => put_refused(to, n),
         Text::At { start, length } => {
-            put_number(start as u64, b" ");
-            put_number(length as u64, b"\n");
+            put_number(to, start as u64, b" ")?;
+            put_number(to, length as u64, b"\n")
         }
     }
 }
@@ -143,45 +162,52 @@ fn not_negative(x: i64) -> u64 {
 }
 
 // A whole number, or the refusal; the file has no other element, and none that is negative.
-fn put_element(r: Element) {
+fn put_element<W: Write>(to: &mut W, r: Element) -> io::Result<()> {
     match r {
-        Element::Refused(n) => put_refused(n),
-        Element::Whole(x) => put_number(not_negative(x), b"\n"),
-        _ => {}
+        Element::Refused(n) => put_refused(to, n),
+        Element::Whole(x) => put_number(to, not_negative(x), b"\n"),
+        _ => Ok(()),
     }
 }
 
 // Every call, for the comment and the dye with this number.
-fn put_items(s: &[u8], place: u64, count: u64, number: u32) {
-    put_found(lookup_in(s, place, count, 0x434d4e54, number));
-    put_part(data_part_in(s, place, count, 0x434d4e54, number));
-    put_text(text_in(s, place, count, 0x434d4e54, number));
-    put_part(text_part_in(s, place, count, 0x434d4e54, number));
-    put_element(element_in(s, place, count, 0x44594523, number, 1));
+fn put_items<W: Write>(
+    to: &mut W,
+    s: &[u8],
+    place: u64,
+    count: u64,
+    number: u32,
+) -> io::Result<()> {
+    put_found(to, lookup_in(s, place, count, 0x434d4e54, number))?;
+    put_part(to, data_part_in(s, place, count, 0x434d4e54, number))?;
+    put_text(to, text_in(s, place, count, 0x434d4e54, number))?;
+    put_part(to, text_part_in(s, place, count, 0x434d4e54, number))?;
+    put_element(to, element_in(s, place, count, 0x44594523, number, 1))
 }
 
 // The items that the file has, and then some that it does not have.
-fn put_file(s: &[u8], place: u64, count: u64) {
-    put_items(s, place, count, 1);
-    put_items(s, place, count, 2);
+fn put_file<W: Write>(to: &mut W, s: &[u8], place: u64, count: u64) -> io::Result<()> {
+    put_items(to, s, place, count, 1)?;
+    put_items(to, s, place, count, 2)
 }
 
 // What opening gives, and the calls with that.
-fn put_opened(s: &[u8]) {
+fn put_opened<W: Write>(to: &mut W, s: &[u8]) -> io::Result<()> {
     let d = directory_of(s);
-    put_number(d.place, b" ");
-    put_number(d.count, b"\n");
-    put_file(s, d.place, d.count);
+    put_number(to, d.place, b" ")?;
+    put_number(to, d.count, b"\n")?;
+    put_file(to, s, d.place, d.count)
 }
 
 // The file as it is opened, with a wrong place, with a wrong count, with a place that is right in its low 32 bits alone; and its first 100 bytes.
-fn main() {
-    let mut buffer = io::buffer();
-    let n = io::read_full(STDIN_FILENO, &mut buffer);
+fn main(rt: HostRuntime) -> io::Result<()> {
+    let mut buffer = [0u8; 4096];
+    let n = read_full(&mut rt.reader(), &mut buffer)?;
     let s = &buffer[..n];
-    put_opened(s);
-    put_file(s, 156, 2);
-    put_file(s, 128, 1);
-    put_file(s, 0x1_0000_0080, 2);
-    put_opened(part(s, 0, 100));
+    let to = &mut io::writer(&rt);
+    put_opened(to, s)?;
+    put_file(to, s, 156, 2)?;
+    put_file(to, s, 128, 1)?;
+    put_file(to, s, 0x1_0000_0080, 2)?;
+    put_opened(to, part(s, 0, 100))
 }

@@ -1,45 +1,58 @@
 // Runs the calls that no C function reaches, on the ABIF file on standard input: the parts that lookup and the text call hand back, found and
 // refused, and raw entries by their number.
 #![tactic(auto)]
+
+ghost use Rattle.std.specs.Io.{ReadsAtMost};
+
 use abif::lookup::data_part;
 use abif_elements::text::text_part;
 use abif_file::entry::{EntryFound, entry};
-use libc::{STDIN_FILENO, STDOUT_FILENO};
+use std::io;
+use std::io::{Read, Write};
+
+// Reads until the buffer is full or the input ends, and tells how many bytes it put at the buffer's start.
+fn read_full<R: Read>(from: &mut R, buffer: &mut [u8]) -> io::Result<usize>
+    ensures { ReadsAtMost result buffer.new }
+{
+    let mut done = 0;
+    while done < buffer.len() {
+        let n = from.read(&mut buffer[done..])?;
+        if n == 0 {
+            break;
+        }
+        done += n;
+    }
+    Ok(done)
+}
 
 // A part as its length and its bytes.
-fn put_part(part: &[u8]) {
-    io::print_decimal(STDOUT_FILENO, part.len() as u64);
-    io::write_all(STDOUT_FILENO, b" ");
-    io::write_all(STDOUT_FILENO, part);
-    io::write_all(STDOUT_FILENO, b"\n");
+fn put_part<W: Write>(to: &mut W, part: &[u8]) -> io::Result<()> {
+    write!(to, "{} ", part.len())?;
+    to.write_all(part)?;
+    to.write_all(b"\n")
 }
 
 // The name's number of an entry, or the refusal.
-fn put_entry(s: &[u8], index: u64) {
+fn put_entry<W: Write>(to: &mut W, s: &[u8], index: u64) -> io::Result<()> {
     match entry(s, index) {
-        EntryFound::At(d) => {
-            io::print_decimal(STDOUT_FILENO, d.name as u64);
-        }
-        EntryFound::Refused(n) => {
-            io::write_all(STDOUT_FILENO, b"refused ");
-            io::print_decimal(STDOUT_FILENO, n as u64);
-        }
+        EntryFound::At(d) => writeln!(to, "{}", d.name),
+        EntryFound::Refused(n) => writeln!(to, "refused {n}"),
     }
-    io::write_all(STDOUT_FILENO, b"\n");
 }
 
-fn main() {
-    let mut buffer = io::buffer();
-    let n = io::read_full(STDIN_FILENO, &mut buffer);
+fn main(rt: HostRuntime) -> io::Result<()> {
+    let mut buffer = [0u8; 4096];
+    let n = read_full(&mut rt.reader(), &mut buffer)?;
     let s = &buffer[..n];
-    put_part(data_part(s, 0x434d4e54, 1));
-    put_part(text_part(s, 0x434d4e54, 1));
-    put_part(data_part(s, 0x44594523, 1));
-    put_part(text_part(s, 0x44594523, 1));
-    put_part(data_part(s, 0x434d4e54, 2));
-    put_part(text_part(s, 0x434d4e54, 2));
-    put_entry(s, 0);
-    put_entry(s, 1);
-    put_entry(s, 2);
-    put_entry(s, 3);
+    let to = &mut io::writer(&rt);
+    put_part(to, data_part(s, 0x434d4e54, 1))?;
+    put_part(to, text_part(s, 0x434d4e54, 1))?;
+    put_part(to, data_part(s, 0x44594523, 1))?;
+    put_part(to, text_part(s, 0x44594523, 1))?;
+    put_part(to, data_part(s, 0x434d4e54, 2))?;
+    put_part(to, text_part(s, 0x434d4e54, 2))?;
+    put_entry(to, s, 0)?;
+    put_entry(to, s, 1)?;
+    put_entry(to, s, 2)?;
+    put_entry(to, s, 3)
 }

@@ -1,35 +1,54 @@
 // Runs the calls that no C function reaches, on the SFF file on standard input: the parts of a read that are handed back, found and refused.
 #![tactic(auto)]
-use libc::{STDIN_FILENO, STDOUT_FILENO};
+
+ghost use Rattle.std.specs.Io.{ReadsAtMost};
+
 use sff::lookup::read_part;
 use sff_fields::parts::ReadPart;
+use std::io;
+use std::io::{Read, Write};
+
+// Reads until the buffer is full or the input ends, and tells how many bytes it put at the buffer's start.
+fn read_full<R: Read>(from: &mut R, buffer: &mut [u8]) -> io::Result<usize>
+    ensures { ReadsAtMost result buffer.new }
+{
+    let mut done = 0;
+    while done < buffer.len() {
+        let n = from.read(&mut buffer[done..])?;
+        if n == 0 {
+            break;
+        }
+        done += n;
+    }
+    Ok(done)
+}
 
 // A part as its length and its bytes.
-fn put_part(part: &[u8]) {
-    io::print_decimal(STDOUT_FILENO, part.len() as u64);
-    io::write_all(STDOUT_FILENO, b" ");
-    io::write_all(STDOUT_FILENO, part);
-    io::write_all(STDOUT_FILENO, b"\n");
+fn put_part<W: Write>(to: &mut W, part: &[u8]) -> io::Result<()> {
+    write!(to, "{} ", part.len())?;
+    to.write_all(part)?;
+    to.write_all(b"\n")
 }
 
 // Every part of read k.
-fn put_read(s: &[u8], k: u64) {
-    put_part(read_part(s, k, ReadPart::Name));
-    put_part(read_part(s, k, ReadPart::Flows));
-    put_part(read_part(s, k, ReadPart::Steps));
-    put_part(read_part(s, k, ReadPart::Letters));
-    put_part(read_part(s, k, ReadPart::Qualities));
-    put_part(read_part(s, k, ReadPart::Insert));
+fn put_read<W: Write>(to: &mut W, s: &[u8], k: u64) -> io::Result<()> {
+    put_part(to, read_part(s, k, ReadPart::Name))?;
+    put_part(to, read_part(s, k, ReadPart::Flows))?;
+    put_part(to, read_part(s, k, ReadPart::Steps))?;
+    put_part(to, read_part(s, k, ReadPart::Letters))?;
+    put_part(to, read_part(s, k, ReadPart::Qualities))?;
+    put_part(to, read_part(s, k, ReadPart::Insert))
 }
 
 // The file has an insert in read 1, an empty one in read 2, a clip above the bases in read 3, and the index behind read 1.
-fn main() {
-    let mut buffer = io::buffer();
-    let n = io::read_full(STDIN_FILENO, &mut buffer);
+fn main(rt: HostRuntime) -> io::Result<()> {
+    let mut buffer = [0u8; 4096];
+    let n = read_full(&mut rt.reader(), &mut buffer)?;
     let s = &buffer[..n];
-    put_read(s, 0);
-    put_read(s, 1);
-    put_read(s, 2);
-    put_read(s, 3);
-    put_read(s, 4);
+    let to = &mut io::writer(&rt);
+    put_read(to, s, 0)?;
+    put_read(to, s, 1)?;
+    put_read(to, s, 2)?;
+    put_read(to, s, 3)?;
+    put_read(to, s, 4)
 }
