@@ -1,8 +1,6 @@
 // Tells of the file on standard input, in lines on standard output.
 #![tactic(auto)]
 
-ghost use Rattle.std.specs.Io.{ReadsAtMost};
-
 mod abif_lines;
 mod gtc_lines;
 mod input;
@@ -11,23 +9,9 @@ mod sff_lines;
 
 use crate::input::{Input, input_of};
 use crate::line::put;
+use lent_input::read_full;
 use std::io;
-use std::io::{Read, Write};
-
-// Reads until the buffer is full or the input ends, and tells how many bytes it put at the buffer's start.
-fn read_full<R: Read>(from: &mut R, buffer: &mut [u8]) -> io::Result<usize>
-    ensures { ReadsAtMost result buffer.new }
-{
-    let mut done = 0;
-    while done < buffer.len() {
-        let n = from.read(&mut buffer[done..])?;
-        if n == 0 {
-            break;
-        }
-        done += n;
-    }
-    Ok(done)
-}
+use std::io::Write;
 
 fn report<W: Write>(to: &mut W, s: &[u8]) -> io::Result<()> {
     match input_of(s) {

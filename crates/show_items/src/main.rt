@@ -2,28 +2,12 @@
 // found and refused, and what genotype codes mean.
 #![tactic(auto)]
 
-ghost use Rattle.std.specs.Io.{ReadsAtMost};
-
 use gtc::lookup::data_part;
 use gtc_records::genotype::{Decoded, Genotype, genotype_of};
 use gtc_records::transformation::transformation_part;
+use lent_input::read_full;
 use std::io;
-use std::io::{Read, Write};
-
-// Reads until the buffer is full or the input ends, and tells how many bytes it put at the buffer's start.
-fn read_full<R: Read>(from: &mut R, buffer: &mut [u8]) -> io::Result<usize>
-    ensures { ReadsAtMost result buffer.new }
-{
-    let mut done = 0;
-    while done < buffer.len() {
-        let n = from.read(&mut buffer[done..])?;
-        if n == 0 {
-            break;
-        }
-        done += n;
-    }
-    Ok(done)
-}
+use std::io::Write;
 
 fn put<W: Write>(to: &mut W, text: &[u8]) -> io::Result<()> {
     to.write_all(text)

@@ -2,31 +2,15 @@
 // gives, with others, and on a file that is cut short.
 #![tactic(auto)]
 
-ghost use Rattle.std.specs.Io.{ReadsAtMost};
-
 use abif_elements::element::Element;
 use abif_elements::text::Text;
 use abif_file::file;
 use abif_file::file::AbifFile;
+use lent_input::read_full;
 use reading::item::Found;
 use reading::part::part;
 use std::io;
-use std::io::{Read, Write};
-
-// Reads until the buffer is full or the input ends, and tells how many bytes it put at the buffer's start.
-fn read_full<R: Read>(from: &mut R, buffer: &mut [u8]) -> io::Result<usize>
-    ensures { ReadsAtMost result buffer.new }
-{
-    let mut done = 0;
-    while done < buffer.len() {
-        let n = from.read(&mut buffer[done..])?;
-        if n == 0 {
-            break;
-        }
-        done += n;
-    }
-    Ok(done)
-}
+use std::io::Write;
 
 // A directory's place and count.
 #[derive(Clone, Copy)]

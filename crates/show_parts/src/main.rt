@@ -2,28 +2,12 @@
 // refused, and raw entries by their number.
 #![tactic(auto)]
 
-ghost use Rattle.std.specs.Io.{ReadsAtMost};
-
 use abif::lookup::data_part;
 use abif_elements::text::text_part;
 use abif_file::entry::{EntryFound, entry};
+use lent_input::read_full;
 use std::io;
-use std::io::{Read, Write};
-
-// Reads until the buffer is full or the input ends, and tells how many bytes it put at the buffer's start.
-fn read_full<R: Read>(from: &mut R, buffer: &mut [u8]) -> io::Result<usize>
-    ensures { ReadsAtMost result buffer.new }
-{
-    let mut done = 0;
-    while done < buffer.len() {
-        let n = from.read(&mut buffer[done..])?;
-        if n == 0 {
-            break;
-        }
-        done += n;
-    }
-    Ok(done)
-}
+use std::io::Write;
 
 // A part as its length and its bytes.
 fn put_part<W: Write>(to: &mut W, part: &[u8]) -> io::Result<()> {

@@ -1,27 +1,11 @@
 // Runs the calls that no C function reaches, on the SFF file on standard input: the parts of a read that are handed back, found and refused.
 #![tactic(auto)]
 
-ghost use Rattle.std.specs.Io.{ReadsAtMost};
-
+use lent_input::read_full;
 use sff::lookup::read_part;
 use sff_fields::parts::ReadPart;
 use std::io;
-use std::io::{Read, Write};
-
-// Reads until the buffer is full or the input ends, and tells how many bytes it put at the buffer's start.
-fn read_full<R: Read>(from: &mut R, buffer: &mut [u8]) -> io::Result<usize>
-    ensures { ReadsAtMost result buffer.new }
-{
-    let mut done = 0;
-    while done < buffer.len() {
-        let n = from.read(&mut buffer[done..])?;
-        if n == 0 {
-            break;
-        }
-        done += n;
-    }
-    Ok(done)
-}
+use std::io::Write;
 
 // A part as its length and its bytes.
 fn put_part<W: Write>(to: &mut W, part: &[u8]) -> io::Result<()> {

@@ -1,6 +1,6 @@
 -- `read_full` ends, since each turn leaves less to fill.
 use Rattle.std.proofs.Common.{length, ◌-◌, ◌≡◌, ◌≤◌}
-use Rattle.show_reads.proofs.read_full.Given as goal
+use Rattle.lent_input.proofs.read_full.Given as goal
 
 abbrev pub invariant-loop-done : goal.invariant-loop-done
 invariant-loop-done g l = (length l.buffer ≡ length l.initial.buffer) × (l.done ≤ length l.buffer)
