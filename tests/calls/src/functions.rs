@@ -23,7 +23,7 @@ pub struct Function {
     pub extents: Vec<Origin>,
 }
 
-/// The types that hold a part of lent bytes, in all crates; a method's `self` may be one of them.
+/// The types that hold a part of lent bytes, in all crates.
 pub fn holders(sources: &Sources) -> BTreeSet<String> {
     let texts: Vec<String> = sources
         .texts
@@ -31,7 +31,7 @@ pub fn holders(sources: &Sources) -> BTreeSet<String> {
         .filter(|(path, _)| path.ends_with(".rt"))
         .map(|(_, text)| without_comments(text, "//"))
         .collect();
-    let mut found = BTreeSet::from(["self".to_string()]);
+    let mut found = BTreeSet::new();
     loop {
         let before = found.len();
         for text in &texts {
@@ -61,6 +61,60 @@ fn before_generics(name: &str) -> &str {
     name.split('<').next().unwrap_or(name)
 }
 
+// The head of the `impl` block that the words end in: what stands between `impl` and the bracket.
+fn impl_head<'a, 'b>(words: &'a [&'b str]) -> &'a [&'b str] {
+    let mut depth = 0;
+    for (place, word) in words.iter().enumerate().rev() {
+        match *word {
+            "}" => depth += 1,
+            "{" => depth -= 1,
+            _ => {}
+        }
+        if depth < 0 {
+            let begins = words[..place]
+                .iter()
+                .rposition(|word| ["{", "}", ";"].contains(word))
+                .map_or(0, |at| at + 1);
+            return &words[begins..place];
+        }
+    }
+    &[]
+}
+
+/// The types that can hold no part of lent bytes: declared with no parameter, and no field of theirs is one. A `self` is lent bytes but where the
+/// `impl` block says no more than such a name.
+fn plain_types(sources: &Sources, holders: &BTreeSet<String>) -> BTreeSet<String> {
+    let mut plain = BTreeSet::new();
+    let mut others = holders.clone();
+    for (path, text) in &sources.texts {
+        if !path.ends_with(".rt") {
+            continue;
+        }
+        let text = without_comments(text, "//");
+        for pair in words(&text).windows(2) {
+            match pair {
+                ["struct" | "enum", name] if name.contains('<') => {
+                    others.insert(before_generics(name).to_string());
+                }
+                ["struct" | "enum", name] => {
+                    plain.insert(name.to_string());
+                }
+                ["type", name] => {
+                    others.insert(before_generics(name).to_string());
+                }
+                _ => {}
+            }
+        }
+    }
+    plain.retain(|name| !others.contains(name));
+    plain
+}
+
+fn self_is_lent(parameters: &[&str], head: &[&str], plain: &BTreeSet<String>) -> bool {
+    let is_plain = matches!(head, ["impl", name] if plain.contains(*name));
+    names(parameters).any(|name| name == "self") && !is_plain
+}
+
 fn names<'a>(words: &'a [&str]) -> impl Iterator<Item = &'a str> {
     let is_name_sign = |sign: char| sign.is_alphanumeric() || sign == '_';
     words
@@ -76,6 +130,7 @@ fn hold_bytes(types: &[&str], holders: &BTreeSet<String>) -> bool {
 /// The public functions of a crate.
 pub fn public(sources: &Sources, krate: &str, holders: &BTreeSet<String>) -> Vec<Function> {
     let folder = format!("crates/{krate}/src");
+    let plain = plain_types(sources, holders);
     let mut found = Vec::new();
     for (module, text) in sources.below(&folder, "::") {
         let text = without_comments(text, "//");
@@ -83,6 +138,7 @@ pub fn public(sources: &Sources, krate: &str, holders: &BTreeSet<String>) -> Vec
             sources,
             krate,
             module: &module,
+            plain: &plain,
             origins: Origins::of_source(&text, krate),
         };
         file.add_functions(&words(&text), holders, &mut found);
@@ -94,6 +150,7 @@ struct File<'a> {
     sources: &'a Sources,
     krate: &'a str,
     module: &'a str,
+    plain: &'a BTreeSet<String>,
     origins: Origins,
 }
 
@@ -110,11 +167,12 @@ impl File<'_> {
             let closing = opening + group(&rest[opening..]).len() + 1;
             let (parameters, behind) = rest.split_at(closing.min(rest.len()));
             let promise = promise(behind);
+            let is_self_lent = self_is_lent(parameters, impl_head(&words[..place]), self.plain);
             found.push(Function {
                 name: self.name(before_generics(name)),
-                is_lent_bytes: hold_bytes(parameters, holders),
-                is_given_a_place: names(parameters)
-                    .any(|name| name == "place" || holders.contains(name)),
+                is_lent_bytes: is_self_lent || hold_bytes(parameters, holders),
+                is_given_a_place: is_self_lent
+                    || names(parameters).any(|name| name == "place" || holders.contains(name)),
                 is_of_opened: promise
                     .iter()
                     .any(|word| self.origins.is_one(word, &[OF_OPENED])),

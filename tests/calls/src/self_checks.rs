@@ -63,7 +63,7 @@ fn toy() -> Sources {
 }
 
 /// Public calls that no list has.
-const NEW_CALLS: [Change; 12] = [
+const NEW_CALLS: [Change; 20] = [
     (
         JUDGE,
         "pub(crate) fn inner",
@@ -99,6 +99,54 @@ const NEW_CALLS: [Change; 12] = [
         "pub fn number(n: u8,",
         "pub fn number(&self,",
         &["toy::judge::number: it is lent bytes, but neither a constructor nor tests/calls/no-reading-calls.txt names it"],
+    ),
+    (
+        JUDGE,
+        "pub fn number(n: u8,",
+        "impl<'a> ToyFile<'a> {\npub fn number(&self,",
+        &["toy::judge::number: it is lent bytes, but neither a constructor nor tests/calls/no-reading-calls.txt names it"],
+    ),
+    (
+        JUDGE,
+        "pub fn number(n: u8,",
+        "impl file::ToyFile<'_> {\npub fn number(&self,",
+        &["toy::judge::number: it is lent bytes, but neither a constructor nor tests/calls/no-reading-calls.txt names it"],
+    ),
+    (
+        JUDGE,
+        "pub fn number(n: u8,",
+        "impl<'a> crate::file::ToyFile<'a> {\npub fn number(&self,",
+        &["toy::judge::number: it is lent bytes, but neither a constructor nor tests/calls/no-reading-calls.txt names it"],
+    ),
+    (
+        JUDGE,
+        "pub fn number(n: u8,",
+        "impl<'a, T> ToyFile<'a, T> where T: Copy {\npub fn number(&self,",
+        &["toy::judge::number: it is lent bytes, but neither a constructor nor tests/calls/no-reading-calls.txt names it"],
+    ),
+    (
+        JUDGE,
+        "pub fn number(n: u8,",
+        "struct Lent<B> { bytes: B }\nimpl<B: AsRef<[u8]>> Lent<B> {\npub fn number(&self,",
+        &["toy::judge::number: it is lent bytes, but neither a constructor nor tests/calls/no-reading-calls.txt names it"],
+    ),
+    (
+        JUDGE,
+        "pub fn number(n: u8,",
+        "type Alias<'a> = ToyFile<'a>;\nimpl Alias<'_> {\npub fn number(&self,",
+        &["toy::judge::number: it is lent bytes, but neither a constructor nor tests/calls/no-reading-calls.txt names it"],
+    ),
+    (
+        JUDGE,
+        "pub fn number(n: u8,",
+        "struct Four<'a> { four: &'a [u8; 4] }\nimpl Four<'_> {\npub fn number(&self,",
+        &["toy::judge::number: it is lent bytes, but neither a constructor nor tests/calls/no-reading-calls.txt names it"],
+    ),
+    (
+        JUDGE,
+        "pub fn number(n: u8,",
+        "struct Count { n: u8 }\nimpl Count {\nfn other(self) {}\npub fn number(self,",
+        &[],
     ),
     (
         JUDGE,
