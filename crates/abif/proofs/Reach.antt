@@ -38,7 +38,7 @@ sizes_none : (k : ElementType) (d : Entry) (s : List ℕ) → reach (sizes_check
 unfolding sizes_check listed_check raw_check
 sizes_none (Listed w) d s = search (reach_none, reach_must) depth 12
 sizes_none Raw d s = search (reach_none, reach_must) depth 12
-sizes_none Unknown d s = search (reach_none, reach_must) depth 12
+sizes_none Unknown d s = search reach_must
 
 -- the end of an entry's data, 0 for data in the entry
 item_end : Entry → ℕ

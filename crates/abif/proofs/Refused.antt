@@ -18,21 +18,21 @@ use Rattle.abif.specs.Lookup.{item_of, lookup_in, looking_up}
 module _ (P : ℕ → ℕ → Type 0) (p : (n : ℕ) → is_number_of n 10 ≡ true → P n 0) (s : List ℕ) where
   pub directory_refuses : Refuses P directory s
   unfolding directory header_check bounds_check
-  directory_refuses = search (refuses_bind, refuses_must, refuses_need, refuses_done, refl) depth 20 fits 3000
+  directory_refuses = search (refuses_bind, refuses_must, refuses_need, refuses_done) depth 20 fits 3000
 
   sizes_refuses : (k : ElementType) (d : Entry) → Refuses P (sizes_check k d) s
   unfolding sizes_check listed_check raw_check
-  sizes_refuses (Listed w) d = search (refuses_bind, refuses_must, refl) depth 12
-  sizes_refuses Raw d = search (refuses_bind, refuses_must, refl) depth 12
-  sizes_refuses Unknown d = search (refuses_must, refl) depth 12
+  sizes_refuses (Listed w) d = search (refuses_bind, refuses_must) depth 12
+  sizes_refuses Raw d = search (refuses_bind, refuses_must) depth 12
+  sizes_refuses Unknown d = search (refuses_must) depth 12
 
   pub entry_refuses : (d : Entry) → Refuses P (entry_check d) s
   unfolding entry_check place_check
-  entry_refuses d = search (refuses_bind, refuses_must, refuses_need, refuses_done, refuses_pick, sizes_refuses, refl) depth 12
+  entry_refuses d = search (refuses_bind, refuses_must, refuses_need, refuses_done, refuses_pick, sizes_refuses) depth 12
 
   pub lookup_refuses : (a b : ℕ) → Refuses P (looking_up a b) s
   unfolding looking_up lookup_in item_of
-  lookup_refuses a b = search (refuses_bind, refuses_done, directory_refuses, one_refuses, entry_refuses, refl) depth 12
+  lookup_refuses a b = search (refuses_bind, refuses_done, directory_refuses, one_refuses, entry_refuses) depth 12
 
   pub opening_refuses : Refuses P opening s
   unfolding opening

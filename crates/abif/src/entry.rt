@@ -1,18 +1,20 @@
 // A directory entry and its checks.
-ghost use Rattle.std.specs.Prelude.{◌≡◌, List, ℕ, ◌+◌, ◌-◌, ◌*◌, ◌≤◌, ◌<◌, length};
+ghost use Rattle.std.specs.Prelude.{◌≡◌, List, ℕ, ◌+◌, ◌≤◌, ◌<◌, length};
 ghost use Rattle.reading.specs.Check.{run};
-ghost use Rattle.reading.specs.Entries.{first_with};
-ghost use Rattle.reading.specs.Answers.{outcome_of_tested, outcome_of_ended};
+ghost use Rattle.reading.specs.Answers.{outcome_of, outcome_of_tested};
 ghost use Rattle.abif.specs.Entry.{entry_of, tag, name, number, element_type, element_size, element_count, data_size, data_offset};
-ghost use Rattle.abif.specs.Entry.{has_tag, type_of, listed_check, raw_check, sizes_check, place_check, entry_check};
+ghost use Rattle.abif.specs.Entry.{type_of, listed_check, raw_check, sizes_check, place_check, entry_check};
 
-use reading::check::{Ended, Field, Rule, Test, Tested, failed, signed_field, unsigned_field};
+use reading::check::{
+    Failure, Field, Requirement, Rule, Test, failed, signed_field, unsigned_field,
+};
 use reading::number::{be16, be32};
+use reading::refusal::Refusal;
 
-// A directory entry with its place; a signed field as its unsigned number.
+// A directory entry with its place, which fits 32 bits in every directory; a signed field as its unsigned number.
 #[derive(Clone, Copy)]
 pub struct Entry {
-    pub place: usize,
+    pub place: u32,
     pub name: u32,
     pub number: u32,
     pub element_type: u16,
@@ -30,17 +32,13 @@ pub enum ElementType {
     Unknown,
 }
 
-// The requirement that a type is handled, and that no earlier entry has the tag.
-const HANDLED_TYPE: u8 = 1;
-
-pub(crate) const NEW_TAG: u8 = 2;
-
+#[tactic(auto, unfolding(crate::specs::Entry::entry_of))]
 pub(crate) fn entry_at(h: &[u8], p: usize) -> Entry
-    requires { p + 28 ≤ length h.now }
+    requires { (p + 28 ≤ length h.now) × (p < 0x100000000) }
     ensures { (result ≡ entry_of h.now p) × (result.place ≡ p) }
 {
     Entry {
-        place: p,
+        place: p as u32,
         name: be32(h, p),
         number: be32(h, p + 4),
         element_type: be16(h, p + 8),
@@ -51,37 +49,8 @@ pub(crate) fn entry_at(h: &[u8], p: usize) -> Entry
     }
 }
 
-// Entry i, counted from 0, of the directory at p has the tag of this name and number. A part of a fixed length is read with no test of its
-// length, so a loop over this is fast.
-fn has_tag(h: &[u8], p: usize, name: u32, number: u32, i: usize) -> bool
-    requires { p + 28 * i + 28 ≤ length h.now }
-    ensures { result ≡ has_tag h.now p name number i }
-{
-    let start = p + 28 * i;
-    let end = start + 8;
-    let tag = &h[start..end];
-    if be32(tag, 0) == name {
-        return be32(tag, 4) == number;
-    }
-    false
-}
-
-// The first entry with this tag from entry `from` on, of n, or n.
-pub(crate) fn first_tag(h: &[u8], p: usize, name: u32, number: u32, from: usize, n: usize) -> usize
-    requires { (p + 28 * n ≤ length h.now) × (from ≤ n) }
-    ensures { (result ≡ first_with (has_tag h.now p name number) (n - from) from) × (result ≤ n) }
-{
-    let mut i = from;
-    while i < n {
-        if has_tag(h, p, name, number, i) {
-            return i;
-        }
-        i += 1;
-    }
-    i
-}
-
-// The element type that a code stands for.
+// The element type that a code stands for. Everywhere else types stay their codes, which the trees of checks take: an entry may have any code.
+#[tactic(auto, using(std::proofs::lemmas::Bool::Decides::nat_tests), unfolding(crate::specs::Entry::type_of))]
 pub fn type_of(k: u16) -> ElementType
     ensures { result ≡ type_of k }
 {
@@ -100,8 +69,7 @@ pub fn type_of(k: u16) -> ElementType
         18 => ElementType::Listed(1), // pString
         19 => ElementType::Listed(1), // cString
         // legacy types
-        6 | 9 | 14 | 16 | 20 | 128 | 256 | 384 => ElementType::Raw,
-        15 | 17 => ElementType::Raw,
+        6 | 9 | 14..=17 | 20 | 128 | 256 | 384 => ElementType::Raw,
         // user types
         1024..=32767 => ElementType::Raw,
         _ => ElementType::Unknown,
@@ -109,107 +77,109 @@ pub fn type_of(k: u16) -> ElementType
 }
 
 // The fields of an entry, as a test tells of them.
-pub(crate) fn tag_field(d: Entry) -> Field
-    ensures { result ≡ tag d }
-{
-    unsigned_field(8, d.place, 4294967296 * d.name as u64 + d.number as u64)
+impl Entry {
+    pub(crate) fn tag_field(self) -> Field
+        ensures { result ≡ tag self }
+    {
+        unsigned_field(
+            8,
+            self.place as usize,
+            4294967296 * self.name as u64 + self.number as u64,
+        )
+    }
+
+    pub(crate) fn name_field(self) -> Field
+        ensures { result ≡ name self }
+    {
+        unsigned_field(4, self.place as usize, self.name as u64)
+    }
+
+    pub(crate) fn number_field(self) -> Field
+        ensures { result ≡ number self }
+    {
+        signed_field(4, self.place as usize + 4, self.number as u64)
+    }
+
+    pub(crate) fn element_type_field(self) -> Field
+        ensures { result ≡ element_type self }
+    {
+        signed_field(2, self.place as usize + 8, self.element_type as u64)
+    }
+
+    pub(crate) fn element_size_field(self) -> Field
+        ensures { result ≡ element_size self }
+    {
+        signed_field(2, self.place as usize + 10, self.element_size as u64)
+    }
+
+    pub(crate) fn element_count_field(self) -> Field
+        ensures { result ≡ element_count self }
+    {
+        signed_field(4, self.place as usize + 12, self.element_count as u64)
+    }
+
+    pub(crate) fn data_size_field(self) -> Field
+        ensures { result ≡ data_size self }
+    {
+        signed_field(4, self.place as usize + 16, self.data_size as u64)
+    }
+
+    pub(crate) fn data_offset_field(self) -> Field
+        ensures { result ≡ data_offset self }
+    {
+        signed_field(4, self.place as usize + 20, self.data_offset as u64)
+    }
 }
 
-pub(crate) fn name_field(d: Entry) -> Field
-    ensures { result ≡ name d }
-{
-    unsigned_field(4, d.place, d.name as u64)
-}
-
-pub(crate) fn number_field(d: Entry) -> Field
-    requires { d.place < 0x8000000000000000 }
-    ensures { result ≡ number d }
-{
-    signed_field(4, d.place + 4, d.number as u64)
-}
-
-pub(crate) fn element_type_field(d: Entry) -> Field
-    requires { d.place < 0x8000000000000000 }
-    ensures { result ≡ element_type d }
-{
-    signed_field(2, d.place + 8, d.element_type as u64)
-}
-
-pub(crate) fn element_size_field(d: Entry) -> Field
-    requires { d.place < 0x8000000000000000 }
-    ensures { result ≡ element_size d }
-{
-    signed_field(2, d.place + 10, d.element_size as u64)
-}
-
-pub(crate) fn element_count_field(d: Entry) -> Field
-    requires { d.place < 0x8000000000000000 }
-    ensures { result ≡ element_count d }
-{
-    signed_field(4, d.place + 12, d.element_count as u64)
-}
-
-pub(crate) fn data_size_field(d: Entry) -> Field
-    requires { d.place < 0x8000000000000000 }
-    ensures { result ≡ data_size d }
-{
-    signed_field(4, d.place + 16, d.data_size as u64)
-}
-
-pub(crate) fn data_offset_field(d: Entry) -> Field
-    requires { d.place < 0x8000000000000000 }
-    ensures { result ≡ data_offset d }
-{
-    signed_field(4, d.place + 20, d.data_offset as u64)
-}
-
-fn listed_tests(w: u16, d: Entry) -> Tested
-    requires { d.place < 0x8000000000000000 }
+#[tactic(auto, using(reading::proofs::Tests::tests), unfolding(crate::specs::Entry::listed_check, reading::specs::Check::run))]
+fn listed_tests(w: u16, d: Entry) -> Result<(), Test>
     ensures { (l : List ℕ) → outcome_of_tested result ≡ run (listed_check w d) l }
 {
-    if 0x8000 <= d.element_size {
-        return failed(element_size_field(d), Rule::Exactly(w as u64), 9);
-    }
-    if d.element_size != w {
-        return failed(element_size_field(d), Rule::Exactly(w as u64), 9);
+    if 0x8000 <= d.element_size || d.element_size != w {
+        return failed(
+            d.element_size_field(),
+            Rule::Exactly(w as u64),
+            Refusal::BadSize,
+        );
     }
     if 0x8000_0000 <= d.element_count {
-        return failed(element_count_field(d), Rule::NotNegative, 9);
+        return failed(d.element_count_field(), Rule::NotNegative, Refusal::BadSize);
     }
     let whole = w as u64 * d.element_count as u64;
-    if 0x8000_0000 <= d.data_size {
-        return failed(data_size_field(d), Rule::EqualTo(whole), 9);
+    if 0x8000_0000 <= d.data_size || d.data_size as u64 != whole {
+        return failed(d.data_size_field(), Rule::EqualTo(whole), Refusal::BadSize);
     }
-    if d.data_size as u64 != whole {
-        return failed(data_size_field(d), Rule::EqualTo(whole), 9);
-    }
-    Tested::Passed
+    Ok(())
 }
 
-fn raw_tests(d: Entry) -> Tested
-    requires { d.place < 0x8000000000000000 }
+#[tactic(auto, using(reading::proofs::Tests::tests), unfolding(crate::specs::Entry::raw_check, reading::specs::Check::run))]
+fn raw_tests(d: Entry) -> Result<(), Test>
     ensures { (l : List ℕ) → outcome_of_tested result ≡ run (raw_check d) l }
 {
     if 0x8000 <= d.element_size {
-        return failed(element_size_field(d), Rule::NotNegative, 9);
+        return failed(d.element_size_field(), Rule::NotNegative, Refusal::BadSize);
     }
     if 0x8000_0000 <= d.element_count {
-        return failed(element_count_field(d), Rule::NotNegative, 9);
+        return failed(d.element_count_field(), Rule::NotNegative, Refusal::BadSize);
     }
     if 0x8000_0000 <= d.data_size {
-        return failed(data_size_field(d), Rule::NotNegative, 9);
+        return failed(d.data_size_field(), Rule::NotNegative, Refusal::BadSize);
     }
-    Tested::Passed
+    Ok(())
 }
 
-fn sizes_tests(k: ElementType, d: Entry) -> Tested
-    requires { d.place < 0x8000000000000000 }
+#[tactic(auto, using(reading::proofs::Tests::tests), unfolding(crate::specs::Entry::sizes_check, reading::specs::Check::run))]
+fn sizes_tests(k: ElementType, d: Entry) -> Result<(), Test>
     ensures { (l : List ℕ) → outcome_of_tested result ≡ run (sizes_check k d) l }
 {
     match k {
         ElementType::Listed(w) => listed_tests(w, d),
         ElementType::Raw => raw_tests(d),
-        ElementType::Unknown => failed(element_type_field(d), Rule::Other(HANDLED_TYPE, false), 10),
+        ElementType::Unknown => failed(
+            d.element_type_field(),
+            Rule::Other(Requirement::HandledType, false),
+            Refusal::OtherType,
+        ),
     }
 }
 
@@ -220,42 +190,31 @@ fn end_of(offset: u32, size: u32) -> usize
     offset as usize + size as usize
 }
 
-fn place_tests(s: &[u8], d: Entry) -> Ended
-    requires { d.place < 0x8000000000000000 }
-    ensures { outcome_of_ended result ≡ run (place_check d) s.now }
+#[tactic(auto, using(reading::proofs::Tests::tests), unfolding(crate::specs::Entry::place_check, reading::specs::Check::run))]
+fn place_tests(s: &[u8], d: Entry) -> Result<usize, Failure>
+    ensures { outcome_of result ≡ run (place_check d) s.now }
 {
     if d.data_size <= 4 {
-        return Ended::At(0);
+        return Ok(0);
     }
-    if 0x8000_0000 <= d.data_offset {
-        return Ended::Failed(Test {
-            field: data_offset_field(d),
+    if 0x8000_0000 <= d.data_offset || d.data_offset < 128 {
+        return Err(Failure::Failed(Test {
+            field: d.data_offset_field(),
             rule: Rule::AtLeast(128),
-            number: 6,
-        });
-    }
-    if d.data_offset < 128 {
-        return Ended::Failed(Test {
-            field: data_offset_field(d),
-            rule: Rule::AtLeast(128),
-            number: 6,
-        });
+            refusal: Refusal::BadOffset,
+        }));
     }
     let start = d.data_offset as usize;
     let end = end_of(d.data_offset, d.data_size);
     if s.len() < end {
-        return Ended::Short(start, end);
+        return Err(Failure::Short { start, end });
     }
-    Ended::At(end)
+    Ok(end)
 }
 
-pub(crate) fn entry_tests(s: &[u8], d: Entry) -> Ended
-    requires { d.place < 0x8000000000000000 }
-    ensures { outcome_of_ended result ≡ run (entry_check d) s.now }
+pub(crate) fn entry_tests(s: &[u8], d: Entry) -> Result<usize, Failure>
+    ensures { outcome_of result ≡ run (entry_check d) s.now }
 {
-    let k = type_of(d.element_type);
-    if let Tested::Failed(t) = sizes_tests(k, d) {
-        return Ended::Failed(t);
-    }
+    sizes_tests(type_of(d.element_type), d)?;
     place_tests(s, d)
 }

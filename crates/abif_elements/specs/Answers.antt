@@ -1,24 +1,22 @@
--- What the enums of the code stand for: answers of document 01.
+-- What the results of the code stand for: answers of document 01.
+use Rattle.std.specs.Prelude.{Result, Ok, Err}
+use Rattle.reading.specs.declared.refusal.Refusal.{Refusal}
 use Rattle.reading.specs.Check.{Answer, ok, refused}
-use Rattle.reading.specs.Part.{Span}
+use Rattle.reading.specs.Refusal.{number}
 use Rattle.abif_elements.specs.declared.element.Element.{Element}
 use Rattle.abif_elements.specs.declared.element.Element.TheVariants as element
-use Rattle.abif_elements.specs.declared.text.Text.{Text}
-use Rattle.abif_elements.specs.declared.text.Text.TheVariants as text
 use Rattle.abif_elements.specs.Element.{Value, whole, single, double, date, time, bool, thumb}
 
 -- an element
-abbrev pub answer_of_element : Element → Answer Value
-answer_of_element (element.Whole z) = ok (whole z)
-answer_of_element (element.Single f n) = ok (single f n)
-answer_of_element (element.Double f n) = ok (double f n)
-answer_of_element (element.Date y m d) = ok (date y m d)
-answer_of_element (element.Time h m s c) = ok (time h m s c)
-answer_of_element (element.Bool b) = ok (bool b)
-answer_of_element (element.Thumb d u c n) = ok (thumb d u c n)
-answer_of_element (element.Refused n) = refused n 0
+abbrev pub value_of : Element → Value
+value_of (element.Whole z) = whole z
+value_of (element.Single f n) = single f n
+value_of (element.Double f n) = double f n
+value_of (element.Date y m d) = date y m d
+value_of (element.Time h m s c) = time h m s c
+value_of (element.Bool b) = bool b
+value_of (element.Thumb d u c n) = thumb d u c n
 
--- a text: where it stands
-abbrev pub answer_of_text : Text → Answer Span
-answer_of_text (text.At a n) = ok (record { start = a; size = n })
-answer_of_text (text.Refused n) = refused n 0
+abbrev pub answer_of_element : Result Element Refusal → Answer Value
+answer_of_element (Ok e) = ok (value_of e)
+answer_of_element (Err r) = refused (number r) 0

@@ -2,7 +2,8 @@
 use Rattle.std.specs.Prelude.{ℕ, ◌+◌, ◌-◌, List, [], ◌∷◌, eqb}
 use Rattle.reading.specs.Choice.{pick, among}
 use Rattle.reading.specs.Check.{Check, done, provided, ◌>>=◌, ◌>>◌}
-use Rattle.reading.specs.Part.{Span, bytes_at}
+use Rattle.reading.specs.declared.part.Span.{Span}
+use Rattle.reading.specs.Part.{bytes_at}
 use Rattle.contents.specs.Text.{is_pstring, is_cstring}
 use Rattle.reading.specs.declared.item.ItemData.{ItemData}
 use Rattle.abif.specs.Lookup.{looking_up}

@@ -1,2 +1,3 @@
 pub mod Reach
 pub mod Refused
+pub mod opened

@@ -1,11 +1,12 @@
 // The raw entries of the directory.
 ghost use Rattle.std.specs.Prelude.{◌≡◌, ◌+◌, ◌*◌, ◌≤◌, length};
 ghost use Rattle.reading.specs.Check.{answer};
+ghost use Rattle.reading.specs.Answers.{answer_of};
 ghost use Rattle.abif_file.specs.Entry.{raw_entry, entry_reading};
-ghost use Rattle.abif_file.specs.Answers.{answer_of_entry_found};
 
-use abif::directory::{Opened, open};
-use reading::number::{be16, be32, signed16, signed32};
+use abif::directory::open;
+use reading::number::{be16, be32};
+use reading::refusal::Refusal;
 
 // A directory entry as it stands in the file, signed where the format is; C programs lend lists of these.
 #[repr(C)]
@@ -21,13 +22,6 @@ pub struct RawEntry {
     pub data_handle: i32,
 }
 
-// An entry of the directory, or the refusal.
-#[derive(Clone, Copy)]
-pub enum EntryFound {
-    At(RawEntry),
-    Refused(u8),
-}
-
 // Entry i, counted from 0, of a directory at this place. A part of a fixed length is read with no test of its length, so a loop over this is fast.
 pub(crate) fn raw_entry(h: &[u8], place: u32, i: usize) -> RawEntry
     requires { place + 28 * i + 28 ≤ length h.now }
@@ -38,32 +32,25 @@ pub(crate) fn raw_entry(h: &[u8], place: u32, i: usize) -> RawEntry
     let e = &h[p..end];
     RawEntry {
         name: be32(e, 0),
-        number: signed32(be32(e, 4)),
-        element_type: signed16(be16(e, 8)),
-        element_size: signed16(be16(e, 10)),
-        element_count: signed32(be32(e, 12)),
-        data_size: signed32(be32(e, 16)),
-        data_offset: signed32(be32(e, 20)),
-        data_handle: signed32(be32(e, 24)),
+        number: be32(e, 4).cast_signed(),
+        element_type: be16(e, 8).cast_signed(),
+        element_size: be16(e, 10).cast_signed(),
+        element_count: be32(e, 12).cast_signed(),
+        data_size: be32(e, 16).cast_signed(),
+        data_offset: be32(e, 20).cast_signed(),
+        data_handle: be32(e, 24).cast_signed(),
     }
 }
 
 // Entry number `index`, from one, of the directory.
-pub fn entry(s: &[u8], index: u64) -> EntryFound
-    ensures { answer_of_entry_found result ≡ answer (entry_reading index) s.now }
+pub fn entry(s: &[u8], index: u64) -> Result<RawEntry, Refusal>
+    ensures { answer_of result ≡ answer (entry_reading index) s.now }
 {
-    match open(s) {
-        Opened::Refused(n) => EntryFound::Refused(n),
-        Opened::At { place, count } => {
-            if index < 1 {
-                return EntryFound::Refused(7);
-            }
-            if (count as u64) < index {
-                return EntryFound::Refused(7);
-            }
-            let end = place as usize + 28 * count as usize;
-            let i = (index - 1) as usize;
-            EntryFound::At(raw_entry(&s[..end], place, i))
-        }
+    let d = open(s)?;
+    if index < 1 || (d.count as u64) < index {
+        return Err(Refusal::NotThere);
     }
+    let end = d.place as usize + 28 * d.count as usize;
+    let i = (index - 1) as usize;
+    Ok(raw_entry(&s[..end], d.place, i))
 }

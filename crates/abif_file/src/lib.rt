@@ -5,4 +5,3 @@
 pub mod entry;
 pub mod file;
 pub mod list;
-pub mod opened;

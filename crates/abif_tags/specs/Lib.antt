@@ -1,4 +1,5 @@
 pub mod Table
 pub mod Order
 pub mod Report
+pub mod Kind
 pub mod Private

@@ -1,64 +1,30 @@
 -- What private functions ask of their callers. No public call's contract cites this.
-use Rattle.std.specs.Prelude.{ℕ, zero, suc, ◌+◌, ◌-◌, ◌*◌, ◌/◌, ◌%◌, ◌^◌, ◌≤◌, ◌<◌, ◌≡◌, List, [], ◌∷◌, map, Bool, true, false, leb, eqb, pos, get_or, set, drop}
-use Rattle.std.specs.Int.Signed.{mag}
+use Rattle.std.specs.Prelude.{ℕ, ◌≡◌, ◌≤◌, ◌<◌, List, [], ◌∷◌, map, Bool, true, false, pos, eqb, leb, ltb, get_or, drop, Option, Some, None}
+use Rattle.std.specs.Int.{from_be_bytes, w32}
 use Rattle.reading.specs.Choice.{pick}
-use Rattle.abif.specs.declared.tag.Tag.{Tag}
-use Rattle.abif.specs.Tag.{tag_below}
-use Rattle.abif_tags.specs.declared.table.Published.{Published}
-use Rattle.abif_tags.specs.declared.table.Published.TheVariants.{Of, Array, Char4, User}
 use Rattle.abif_tags.specs.declared.table.Presence.{Presence}
 use Rattle.abif_tags.specs.declared.table.Presence.TheVariants.{Absent, Required, Optional}
+use Rattle.abif_tags.specs.declared.table.PrintedRow.{PrintedRow}
+use Rattle.abif_tags.specs.declared.table.PrintedRow.TheVariants.{One, Many}
 use Rattle.abif_tags.specs.declared.table.Row.{Row}
-use Rattle.abif_tags.specs.Table.{TableRow, table, no_row, row_in}
+use Rattle.abif_tags.specs.declared.order.Tagged.{Tagged}
+use Rattle.abif_tags.specs.declared.finding.Finding as code
+use Rattle.abif_tags.specs.declared.report.SideBySide.{SideBySide}
+use Rattle.abif_tags.specs.Kind.{kind_number}
 use Rattle.abif_tags.specs.Order.{tag_at}
 use Rattle.abif_tags.specs.Report.{Finding, side_by_side}
+use Rattle.abif_tags.specs.Table.{row_in, TableRow, table, no_row, row_count, row_at}
 
--- a row of the table as one number: the name, the number, with 128 more where it is 1-N, the type, and two bits for each profile
-abbrev type_number : Published → ℕ
-type_number (Of code) = code
-type_number (Array code) = 32 + code
-type_number Char4 = 66
-type_number User = 255
+-- a letter of the code's table: R, O or N
+abbrev pub presence_of : ℕ → Presence
+presence_of letter = pick (eqb letter 82) Required (pick (eqb letter 79) Optional Absent)
 
-abbrev presence_number : Presence → ℕ
-presence_number Absent = 0
-presence_number Required = 1
-presence_number Optional = 2
-
-abbrev presence_bits : ℕ → List Presence → ℕ
-presence_bits n [] = n
-presence_bits n (p ∷ ps) = presence_bits (4 * n + presence_number p) ps
-
-unfoldable pub packed : TableRow → ℕ
-packed r =
-    0x100000000 * r.first.name
-    + 0x1000000 * (mag r.first.number + pick r.many 128 0)
-    + 0x10000 * type_number r.published
-    + presence_bits 0 r.presences
-
-abbrev pub packed_table : List ℕ
-packed_table = map packed table
-
--- what a number from the table says of its row
-unfoldable pub published_of : ℕ → Published
-published_of n = pick (eqb n 255) User (pick (eqb n 66) Char4 (pick (leb 32 n) (Array (n - 32)) (Of n)))
-
-unfoldable pub presence_of : ℕ → Presence
-presence_of n = pick (eqb n 1) Required (pick (eqb n 2) Optional Absent)
-
-unfoldable pub unpacked : ℕ → ℕ → Row
-unpacked v profile =
-    let number = v / 0x1000000 % 256 in
-    record {
-      first = record { name = v / 0x100000000; number = pos (number % 128) };
-      many = leb 128 number;
-      published = published_of (v / 0x10000 % 256);
-      presence = presence_of (v / 4 ^ (8 - profile) % 4);
-    }
-
--- a test that holds from some place on, of the first n
-abbrev pub Rising : (ℕ → Bool) → ℕ → Type 0
-Rising f n = (a b : ℕ) → a ≤ b → b < n → f a ≡ true → f b ≡ true
+-- a row of the code's table as the definition has it
+abbrev pub as_defined : PrintedRow → TableRow
+as_defined (One name number published letters) =
+    record { first = record { name = from_be_bytes w32 name; number = number }; many = false; published = published; presences = map presence_of letters }
+as_defined (Many name published letters) =
+    record { first = record { name = from_be_bytes w32 name; number = pos 1 }; many = true; published = published; presences = map presence_of letters }
 
 -- of the first n a test holds from r on, and not below it
 pub record Parted (f : ℕ → Bool) (n r : ℕ) : Type 0 where
@@ -70,20 +36,20 @@ pub record Parted (f : ℕ → Bool) (n r : ℕ) : Type 0 where
 unfoldable pub name_reached : ℕ → ℕ → Bool
 name_reached name k = leb name (get_or table k no_row).first.name
 
--- the tag of the entry that stands at place k of an order is above this one
-unfoldable pub is_above : List ℕ → ℕ → List ℕ → Tag → ℕ → Bool
-is_above bytes place order tag k = tag_below tag (tag_at bytes place (get_or order k 0))
+-- row k of a profile, where there is one
+abbrev pub row_if : ℕ → ℕ → Option Row
+row_if profile k = pick (ltb k row_count) (Some (row_at profile k)) None
 
--- x at place j, the d numbers from there on having gone up by one
-unfoldable pub shifted_in : ℕ → ℕ → List ℕ → ℕ → List ℕ
-shifted_in x j l zero = set l j x
-shifted_in x j l (suc d) = shifted_in x j (set l (j + suc d) (get_or l (j + d) 0)) d
+-- what the code has found of a tag
+abbrev pub told : Option code.Finding → List Finding
+told None = []
+told (Some f) = record { tag = f.tag; kind = kind_number f.kind } ∷ []
 
--- what is found of a tag: nothing for 0
-abbrev pub told : Tag → ℕ → List Finding
-told tag zero = []
-told tag (suc k) = record { tag = tag; kind = suc k } ∷ []
+-- entry i, counted from 0, of the directory at this place, as the code sorts it
+abbrev pub tagged : List ℕ → ℕ → ℕ → Tagged
+tagged bytes place i = record { tag = tag_at bytes place i; entry = i }
 
--- the findings from the entry at place i of an order and from row j on
-abbrev pub left : ℕ → List ℕ → ℕ → List ℕ → ℕ → ℕ → List Finding
-left profile bytes place order i j = side_by_side profile bytes place (drop j (map (row_in profile) table)) (drop i order)
+-- the findings from the entry at place i of the order and from row j on
+abbrev pub left : SideBySide → ℕ → ℕ → List Finding
+left s i j =
+    side_by_side s.profile.number s.bytes.now s.place (drop j (map (row_in s.profile.number) table)) (drop i (map (λ t. t.entry) s.order.now))

@@ -2,6 +2,8 @@
 #![tactic(auto)]
 
 pub mod check;
+mod finding;
 mod order;
+mod profile;
 mod report;
 mod table;

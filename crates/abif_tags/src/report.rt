@@ -1,161 +1,100 @@
 // The report of a file's tags against a profile.
-ghost use Rattle.std.specs.Prelude.{◌≡◌, true, List, ◌++◌, ℕ, ◌+◌, ◌*◌, ◌≤◌, ◌<◌, length, get_or, drop};
-ghost use Rattle.std.proofs.lemmas.List.Edits.{sets};
-ghost use Rattle.reading.specs.Choice.{is_number_of};
-ghost use Rattle.abif.specs.Entry.{entry_of};
+ghost use Rattle.std.specs.Prelude.{◌≡◌, ◌++◌, ◌+◌, ◌*◌, ◌≤◌, ◌<◌, length, drop, All};
 ghost use Rattle.abif_tags.specs.Order.{tag_at};
-ghost use Rattle.abif_tags.specs.Report.{of_entry, finding_numbers};
-ghost use Rattle.abif_tags.specs.Private.{packed_table, told, left};
 
-use crate::order::tag_at;
-use crate::table::{ROW_COUNT, agrees_with, is_required, row_at, row_for};
-use abif::tag::{Tag, tag_below};
+use crate::finding::{Finding, Kind, put};
+use crate::order::Tagged;
+use crate::profile::Profile;
+use crate::table::{Presence, ROW_COUNT, row_at, row_for};
 use reading::number::{be16, be32};
+use std::cmp::Ordering;
 
-// What is found of a tag.
-const NOTHING: u8 = 0;
-
-const MISSING: u8 = 1;
-
-const OTHER_TYPE: u8 = 2;
-
-const NOT_IN_PROFILE: u8 = 3;
-
-// A step of the report: how far the entries and the rows have gone by, and what is found of a tag.
+// A file's entries and a profile's rows, which the report goes through side by side: the file's bytes, its directory's place, its entries in
+// tag order, and the profile.
 #[derive(Clone, Copy)]
-struct Step {
-    entries: usize,
-    rows: usize,
-    tag: Tag,
-    kind: u8,
+pub(crate) struct SideBySide<'a> {
+    pub bytes: &'a [u8],
+    pub place: u32,
+    pub order: &'a [Tagged],
+    pub profile: Profile,
+    ghost tags_told: { All (λ t. t.tag ≡ tag_at bytes.now place t.entry) order.now },
 }
 
-// What is found of entry i, counted from 0, which has this tag.
-fn kind_of(h: &[u8], p: u32, table: &[u64; 112], profile: u64, i: u32, tag: Tag) -> u8
-    requires { (is_number_of profile 8 ≡ true) × (table.now ≡ packed_table) × (tag ≡ tag_at h.now p i) }
-    ensures { told tag result ≡ of_entry profile (entry_of h.now (p + 28 * i)) }
-{
-    let k = row_for(table, profile, tag);
-    if k == ROW_COUNT {
-        return NOT_IN_PROFILE;
-    }
-    let place = p as usize + 28 * i as usize;
-    let published = row_at(table, k, profile).published;
-    if agrees_with(published, be16(h, place + 8), be32(h, place + 12)) {
-        return NOTHING;
-    }
-    OTHER_TYPE
-}
+impl<'a> SideBySide<'a> {
+    ghost use Rattle.abif.specs.Entry.{entry_of};
+    ghost use Rattle.abif_tags.specs.Report.{of_entry, finding_numbers};
+    ghost use Rattle.abif_tags.specs.Private.{told, left};
 
-// The step past entry e: what is found of it, and how far the entries and the rows have gone by then.
-fn entry_step(
-    h: &[u8],
-    p: u32,
-    table: &[u64; 112],
-    profile: u64,
-    e: u32,
-    entries: usize,
-    rows: usize,
-) -> Step
-    requires { (is_number_of profile 8 ≡ true) × (table.now ≡ packed_table) }
-    ensures { (told result.tag result.kind ≡ of_entry profile (entry_of h.now (p + 28 * e))) × (result.entries ≡ entries) × (result.rows ≡ rows) }
-{
-    let tag = tag_at(h, p, e);
-    let kind = kind_of(h, p, table, profile, e, tag);
-    Step {
-        entries,
-        rows,
-        tag,
-        kind,
-    }
-}
-
-// The step past row j.
-fn row_step(tag: Tag, kind: u8, i: usize, j: usize) -> Step
-    requires { j < 112 }
-    ensures { result ≡ record { entries = i; rows = j + 1; tag = tag; kind = kind } }
-{
-    Step {
-        entries: i,
-        rows: j + 1,
-        tag,
-        kind,
-    }
-}
-
-// The next step, from the entry at place i of the order and from row j on.
-fn next_step(
-    h: &[u8],
-    p: u32,
-    order: &[u32],
-    table: &[u64; 112],
-    profile: u64,
-    i: usize,
-    j: usize,
-) -> Step
-    requires { (is_number_of profile 8 ≡ true) × (table.now ≡ packed_table) × (i ≤ length order.now) × (j ≤ 112) × (i + j < length order.now + 112) }
-    ensures step_told { left profile h.now p order.now i j
-        ≡ told result.tag result.kind ++ left profile h.now p order.now result.entries result.rows }
-    ensures step_in_bounds { (result.entries ≤ length order.now) × (result.rows ≤ 112) × (i + j < result.entries + result.rows) }
-{
-    let n = order.len();
-    if j == ROW_COUNT {
-        return entry_step(h, p, table, profile, order[i], i + 1, j);
-    }
-    let row = row_at(table, j, profile);
-    let presence = row.presence;
-    if is_required(presence) {
-        if i == n {
-            return row_step(row.first, MISSING, i, j);
+    // What is found of an entry.
+    fn of_entry(&self, at: Tagged) -> Option<Finding>
+        requires { at.tag ≡ tag_at self.now.bytes.now self.now.place at.entry }
+        ensures { told result ≡ of_entry self.now.profile.number (entry_of self.now.bytes.now (self.now.place + 28 * at.entry)) }
+    {
+        let Tagged { tag, entry } = at;
+        let start = self.place as usize + 28 * entry as usize;
+        let code = be16(self.bytes, start + 8);
+        let count = be32(self.bytes, start + 12);
+        match row_for(self.profile, tag) {
+            None => Some(Finding {
+                tag,
+                kind: Kind::NotInProfile,
+            }),
+            Some(row) if row.published.admits(code, count) => None,
+            Some(_) => Some(Finding {
+                tag,
+                kind: Kind::OtherType,
+            }),
         }
-        let tag = tag_at(h, p, order[i]);
-        if tag_below(tag, row.first) {
-            return entry_step(h, p, table, profile, order[i], i + 1, j);
-        }
-        if tag_below(row.first, tag) {
-            return row_step(row.first, MISSING, i, j);
-        }
-        return entry_step(h, p, table, profile, order[i], i + 1, j + 1);
     }
-    row_step(row.first, NOTHING, i, j)
-}
 
-// Puts what is found of a tag behind m findings, and counts it.
-fn put(out: &mut [i64], m: usize, tag: Tag, kind: u8) -> usize
-    requires { 3 * m + 3 ≤ length out.old }
-    ensures { (out.new ≡ sets out.old (3 * m) (finding_numbers (told tag kind))) × (result ≡ m + length (told tag kind)) }
-{
-    if kind == NOTHING {
-        return m;
+    // The next step, from the entry at place i of the order and from row j on: what is found, and how many entries and rows have gone by then.
+    fn step(&self, i: usize, j: usize) -> (Option<Finding>, usize, usize)
+        requires { (i ≤ length self.now.order.now) × (j ≤ ROW_COUNT) × (i + j < length self.now.order.now + ROW_COUNT) }
+        ensures step_told { left self.now i j ≡ told result.0 ++ left self.now result.1 result.2 }
+        ensures step_in_bounds { (result.1 ≤ length self.now.order.now) × (result.2 ≤ ROW_COUNT) × (i + j < result.1 + result.2) }
+    {
+        if j == ROW_COUNT {
+            return (self.of_entry(self.order[i]), i + 1, j);
+        }
+        let row = row_at(j, self.profile);
+        if row.presence != Presence::Required {
+            return (None, i, j + 1);
+        }
+        let missing = Finding {
+            tag: row.first,
+            kind: Kind::Missing,
+        };
+        if i == self.order.len() {
+            return (Some(missing), i, j + 1);
+        }
+        let at = self.order[i];
+        match at.tag.cmp(&row.first) {
+            Ordering::Less => (self.of_entry(at), i + 1, j),
+            Ordering::Equal => (self.of_entry(at), i + 1, j + 1),
+            Ordering::Greater => (Some(missing), i, j + 1),
+        }
     }
-    out[3 * m] = tag.name as i64;
-    out[3 * m + 1] = tag.number as i64;
-    out[3 * m + 2] = kind as i64;
-    m + 1
-}
 
-// The report on the entries in this order, at the output's front, and how many findings it has.
-pub(crate) fn tell(
-    h: &[u8],
-    p: u32,
-    order: &[u32],
-    table: &[u64; 112],
-    profile: u64,
-    out: &mut [i64],
-) -> usize
-    requires { (is_number_of profile 8 ≡ true) × (table.now ≡ packed_table) × (3 * (length order.now + 112) ≤ length out.old) }
-    ensures value { result ≡ length (left profile h.now p order.now 0 0) }
-    ensures out_after { (3 * result ≤ length out.old) × (out.new ≡ finding_numbers (left profile h.now p order.now 0 0) ++ drop (3 * result) out.old) }
-{
-    let n = order.len();
-    let mut i = 0;
-    let mut j = 0;
-    let mut m = 0;
-    while i + j < n + ROW_COUNT {
-        let s = next_step(h, p, order, table, profile, i, j);
-        m = put(out, m, s.tag, s.kind);
-        i = s.entries;
-        j = s.rows;
+    // The report, at the output's front, and how many findings it has.
+    pub(crate) fn tell(&self, out: &mut [i64]) -> usize
+        requires { 3 * (length self.now.order.now + ROW_COUNT) ≤ length out.old }
+        ensures value { result ≡ length (left self.now 0 0) }
+        ensures out_after { (3 * result ≤ length out.old) × (out.new ≡ finding_numbers (left self.now 0 0) ++ drop (3 * result) out.old) }
+    {
+        let n = self.order.len();
+        let mut i = 0;
+        let mut j = 0;
+        let mut m = 0;
+        // Each list goes by at its own pace, so no `for` counts the steps.
+        while i + j < n + ROW_COUNT {
+            let (found, entries, rows) = self.step(i, j);
+            if let Some(finding) = found {
+                put(out, m, finding);
+                m += 1;
+            }
+            i = entries;
+            j = rows;
+        }
+        m
     }
-    m
 }

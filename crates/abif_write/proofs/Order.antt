@@ -12,7 +12,8 @@ use Rattle.reading.specs.Number.{signed, bits}
 use Rattle.reading.proofs.Tests.{no}
 use Rattle.reading.proofs.Bits.{signed_bits}
 use Rattle.abif_write.specs.declared.item.Item.{Item}
-use Rattle.abif_write.specs.Item.{tag_below, ordered}
+use Rattle.abif.specs.Tag.{tag_below}
+use Rattle.abif_write.specs.Item.{tag_of, ordered}
 
 -- a signed 32-bit number as an unsigned one, in the same order
 rank : ℤ → ℕ
@@ -35,7 +36,7 @@ unfolding rank
 rank_small (pos n) h = omega arith
 rank_small (negsuc n) h = omega arith
 
-key_below : (a c : Item) → mag a.number < 0x80000000 → mag c.number < 0x80000000 → tag_below a c ≡ true → key a < key c
+key_below : (a c : Item) → mag a.number < 0x80000000 → mag c.number < 0x80000000 → tag_below (tag_of a) (tag_of c) ≡ true → key a < key c
 unfolding key
 key_below a c ha hc h = go (eqb a.name c.name) refl h
   where

@@ -1,6 +1,5 @@
 -- ABIF: the items that the writer is lent, and their checks in document 01's order.
-use Rattle.std.specs.Prelude.{ℕ, zero, suc, ◌+◌, ◌*◌, List, Bool, true, false, not, leb, ltb, eqb, ℤ, pos, length, get_or}
-use Rattle.std.specs.Int.Signed.{lt_z}
+use Rattle.std.specs.Prelude.{ℕ, zero, suc, ◌+◌, ◌*◌, List, Bool, true, false, not, leb, eqb, ℤ, pos, length, get_or}
 use Rattle.std.specs.Borrow.{Bor}
 use Rattle.reading.specs.Choice.{pick}
 use Rattle.reading.specs.Number.{negative, bits}
@@ -9,7 +8,10 @@ use Rattle.reading.specs.Check.{Check, done, provided, ◌>>◌}
 use Rattle.abif.specs.declared.entry.ElementType.{ElementType}
 use Rattle.abif.specs.declared.entry.ElementType.TheVariants.{Listed, Raw, Unknown}
 use Rattle.abif.specs.Entry.{type_of}
+use Rattle.abif.specs.declared.tag.Tag.{Tag}
+use Rattle.abif.specs.Tag.{tag_below}
 use Rattle.abif_write.specs.declared.item.Item.{Item}
+use Rattle.abif_write.specs.declared.item.LentItems.{LentItems}
 use Rattle.abif_write.specs.ItemContents.{contents_hold}
 
 -- the lent item records: element i of each list is record i's name, number, type, count, and the start and length of its part of the data
@@ -28,6 +30,10 @@ records names numbers types counts starts lengths =
 -- the records in lent slices
 abbrev pub lent_records : Bor (List ℕ) → Bor (List ℤ) → Bor (List ℤ) → Bor (List ℕ) → Bor (List ℕ) → Bor (List ℕ) → Records
 lent_records names numbers types counts starts lengths = records names.now numbers.now types.now counts.now starts.now lengths.now
+
+-- the records of the items that the code hands on
+abbrev pub records_of : LentItems → Records
+records_of items = lent_records items.names items.numbers items.types items.counts items.starts items.lengths
 
 -- the item that record i names; its type by its 16 bits
 unfoldable pub item_at : Records → ℕ → Item
@@ -82,14 +88,14 @@ item_check buffer item = do
   count_check item
   provided (contents_hold item.element_type item.count (bytes_of buffer item)) 11
 
--- the tag of a stands below that of b: name by unsigned bytes, then signed number
-abbrev pub tag_below : Item → Item → Bool
-tag_below a b = pick (eqb a.name b.name) (lt_z a.number b.number) (ltb a.name b.name)
+-- an item's tag
+abbrev pub tag_of : Item → Tag
+tag_of item = record { name = item.name; number = item.number }
 
 -- item i is above the item before it; the first has none before it
 abbrev pub ordered : (ℕ → Item) → ℕ → Bool
 ordered item zero = true
-ordered item (suc i) = tag_below (item i) (item (suc i))
+ordered item (suc i) = tag_below (tag_of (item i)) (tag_of (item (suc i)))
 
 -- per item in order, n items from item i on: its checks, then 14 where it is not above the item before it
 unfoldable pub items_check : (ℕ → Item) → List ℕ → ℕ → ℕ → Check (Unit {0})

@@ -3,5 +3,4 @@ pub mod Item
 pub mod Entry
 pub mod File
 pub mod Write
-pub mod Answers
 pub mod Private

@@ -4,12 +4,12 @@ ghost use Rattle.writing.specs.Put.{put};
 ghost use Rattle.abif_write.specs.Entry.{tag_bytes, data_bytes, entry_bytes, header_bytes, offset_field, entry_for};
 
 use crate::item::{Item, written_size};
+use abif::directory::{ABIF_MARK, TDIR_NAME};
 use abif::entry::Entry;
-use reading::number::{be32, bits32};
-use writing::bytes::put_zeros;
-use writing::number::{put16, put32};
+use reading::number::be32;
+use writing::bytes::{copy, put_zeros};
 
-// Data of 4 bytes or fewer, padded with zeros, or the place x of others.
+// Data of 4 bytes or fewer, padded with zeros, or the place x of others. It is lent buffer and item, as the definition is, and not the item's bytes.
 fn offset_field(buffer: &[u8], d: Item, x: u32) -> u32
     requires { d.start + d.size ≤ length buffer.now }
     ensures { result ≡ offset_field buffer.now d x }
@@ -23,14 +23,14 @@ fn offset_field(buffer: &[u8], d: Item, x: u32) -> u32
 }
 
 // The entry, at this place, of an item whose data, if over 4 bytes, stand at place x.
-pub(crate) fn entry_for(buffer: &[u8], d: Item, place: usize, x: u32) -> Entry
+pub(crate) fn entry_for(buffer: &[u8], d: Item, place: u32, x: u32) -> Entry
     requires { (d.start + d.size ≤ length buffer.now) × (d.size < 0x80000000) }
     ensures { result ≡ entry_for buffer.now d place x }
 {
     Entry {
         place,
         name: d.name,
-        number: bits32(d.number),
+        number: d.number.cast_unsigned(),
         element_type: d.element_type,
         element_size: written_size(d.element_type),
         element_count: d.count,
@@ -43,22 +43,22 @@ fn put_tag(out: &mut [u8], d: Entry)
     requires { d.place + 12 ≤ length out.old }
     ensures { out.new ≡ put out.old d.place (tag_bytes d) }
 {
-    let p = d.place;
-    put32(out, p, d.name);
-    put32(out, p + 4, d.number);
-    put16(out, p + 8, d.element_type);
-    put16(out, p + 10, d.element_size);
+    let p = d.place as usize;
+    copy(out, p, &d.name.to_be_bytes());
+    copy(out, p + 4, &d.number.to_be_bytes());
+    copy(out, p + 8, &d.element_type.to_be_bytes());
+    copy(out, p + 10, &d.element_size.to_be_bytes());
 }
 
 fn put_data_fields(out: &mut [u8], d: Entry)
     requires { d.place + 28 ≤ length out.old }
     ensures { out.new ≡ put out.old (d.place + 12) (data_bytes d) }
 {
-    let p = d.place + 12;
-    put32(out, p, d.element_count);
-    put32(out, p + 4, d.data_size);
-    put32(out, p + 8, d.data_offset);
-    put32(out, p + 12, 0);
+    let p = d.place as usize + 12;
+    copy(out, p, &d.element_count.to_be_bytes());
+    copy(out, p + 4, &d.data_size.to_be_bytes());
+    copy(out, p + 8, &d.data_offset.to_be_bytes());
+    put_zeros(out, p + 12, 4);
 }
 
 // Writes an entry at its place.
@@ -70,18 +70,16 @@ pub(crate) fn put_entry(out: &mut [u8], d: Entry)
     put_data_fields(out, d);
 }
 
-// The mark "ABIF", and the name "tdir" of the header's entry.
-const ABIF_MARK: u32 = 0x41424946;
-
-const TDIR_NAME: u32 = 0x74646972;
+// The version that is written.
+const VERSION: u16 = 101;
 
 // Writes the header of a file with n entries at this place.
 pub(crate) fn put_header(out: &mut [u8], n: u32, place: u32)
     requires { (128 ≤ length out.old) × (n ≤ 999) }
     ensures { out.new ≡ put out.old 0 (header_bytes n place) }
 {
-    put32(out, 0, ABIF_MARK);
-    put16(out, 4, 101);
+    copy(out, 0, &ABIF_MARK.to_be_bytes());
+    copy(out, 4, &VERSION.to_be_bytes());
     let d = Entry {
         place: 6,
         name: TDIR_NAME,

@@ -1,45 +1,30 @@
 // The file: the header, the data, and the directory behind them.
 ghost use Rattle.std.specs.Prelude.{◌≡◌, ◌+◌, ◌*◌, ◌≤◌, ◌<◌, length};
 ghost use Rattle.writing.specs.Put.{put};
-ghost use Rattle.abif_write.specs.Item.{lent_records, item_at};
+ghost use Rattle.abif_write.specs.Item.{records_of, item_at};
 ghost use Rattle.abif_write.specs.Private.{Accepted};
 ghost use Rattle.abif_write.specs.File.{data_outside, size_outside, all_data, entries, directory_place, file};
 
 use crate::entry::{entry_for, put_entry, put_header};
-use crate::item::{Item, item_at};
+use crate::item::{Item, LentItems};
 use writing::bytes::copy;
 
 // How many of an item's bytes stand outside its entry.
 fn size_outside(size: usize) -> usize
     ensures { result ≡ size_outside size }
 {
-    if size <= 4 {
-        return 0;
-    }
-    size
+    if size <= 4 { 0 } else { size }
 }
 
 // Where the directory stands.
-pub(crate) fn directory_place(
-    names: &[u32],
-    numbers: &[i32],
-    types: &[i16],
-    counts: &[u32],
-    starts: &[u64],
-    lengths: &[u64],
-    buffer: &[u8],
-) -> usize
-    requires { Accepted (lent_records names numbers types counts starts lengths) buffer.now × (length names.now ≤ 999) }
-    ensures { (result ≡ directory_place (item_at (lent_records names.entry numbers.entry types.entry counts.entry starts.entry lengths.entry))
-        (length names.now)) × (result < 0x20000000000) }
+pub(crate) fn directory_place(items: &LentItems) -> usize
+    requires accepted { Accepted (records_of items.now) items.now.buffer.now }
+    requires few { length items.now.names.now ≤ 999 }
+    ensures { (result ≡ directory_place (item_at (records_of items.now)) (length items.now.names.now)) × (result < 0x20000000000) }
 {
-    let n = names.len();
-    let mut x: usize = 128;
-    let mut i = 0;
-    while i < n {
-        let d = item_at(names, numbers, types, counts, starts, lengths, i);
-        x += size_outside(d.size);
-        i += 1;
+    let mut x = 128;
+    for i in 0..items.names.len() {
+        x += size_outside(items.item_at(i).size);
     }
     x
 }
@@ -57,86 +42,45 @@ fn put_data(out: &mut [u8], p: usize, buffer: &[u8], d: Item)
     copy(out, p, &buffer[start..end]);
 }
 
-fn put_datas(
-    names: &[u32],
-    numbers: &[i32],
-    types: &[i16],
-    counts: &[u32],
-    starts: &[u64],
-    lengths: &[u64],
-    buffer: &[u8],
-    out: &mut [u8],
-)
-    requires accepted { Accepted (lent_records names numbers types counts starts lengths) buffer.now }
-    requires has_room { 128 + length (all_data (item_at (lent_records names numbers types counts starts lengths)) buffer.now (length names.now) 0) ≤ length
-        out.old }
-    ensures { out.new ≡ put out.old 128
-        (all_data (item_at (lent_records names.entry numbers.entry types.entry counts.entry starts.entry lengths.entry)) buffer.now
-        (length names.now) 0) }
+fn put_datas(items: &LentItems, out: &mut [u8])
+    requires accepted { Accepted (records_of items.now) items.now.buffer.now }
+    requires has_room { 128 + length (all_data (item_at (records_of items.now)) items.now.buffer.now (length items.now.names.now) 0) ≤ length out.old }
+    ensures { out.new ≡ put out.old 128 (all_data (item_at (records_of items.now)) items.now.buffer.now (length items.now.names.now) 0) }
 {
-    let n = names.len();
     let mut at = 128;
-    let mut i = 0;
-    while i < n {
-        let d = item_at(names, numbers, types, counts, starts, lengths, i);
-        put_data(out, at, buffer, d);
+    for i in 0..items.names.len() {
+        let d = items.item_at(i);
+        put_data(out, at, items.buffer, d);
         at += size_outside(d.size);
-        i += 1;
     }
 }
 
-fn put_entries(
-    names: &[u32],
-    numbers: &[i32],
-    types: &[i16],
-    counts: &[u32],
-    starts: &[u64],
-    lengths: &[u64],
-    buffer: &[u8],
-    out: &mut [u8],
-    place: usize,
-)
-    requires accepted { Accepted (lent_records names numbers types counts starts lengths) buffer.now }
-    requires has_room { place + 28 * length names.now ≤ length out.old }
-    requires place_fits { directory_place (item_at (lent_records names numbers types counts starts lengths)) (length names.now) < 0x80000000 }
+fn put_entries(items: &LentItems, out: &mut [u8], place: usize)
+    requires accepted { Accepted (records_of items.now) items.now.buffer.now }
+    requires has_room { place + 28 * length items.now.names.now ≤ length out.old }
+    requires place_fits { place + 28 * length items.now.names.now < 0x100000000 }
+    requires data_fit { directory_place (item_at (records_of items.now)) (length items.now.names.now) < 0x80000000 }
     ensures { out.new ≡ put out.old place
-        (entries (item_at (lent_records names.entry numbers.entry types.entry counts.entry starts.entry lengths.entry))
-        buffer.now place (length names.now) 0 128) }
+        (entries (item_at (records_of items.now)) items.now.buffer.now place (length items.now.names.now) 0 128) }
 {
-    let n = names.len();
-    let mut x: usize = 128;
-    let mut i = 0;
-    while i < n {
-        let d = item_at(names, numbers, types, counts, starts, lengths, i);
-        let e = entry_for(buffer, d, place + 28 * i, x as u32);
+    let mut x = 128;
+    for i in 0..items.names.len() {
+        let d = items.item_at(i);
+        let e = entry_for(items.buffer, d, (place + 28 * i) as u32, x as u32);
         put_entry(out, e);
         x += size_outside(d.size);
-        i += 1;
     }
 }
 
 // Writes the file, of which all is known to fit.
-pub(crate) fn put_file(
-    names: &[u32],
-    numbers: &[i32],
-    types: &[i16],
-    counts: &[u32],
-    starts: &[u64],
-    lengths: &[u64],
-    buffer: &[u8],
-    out: &mut [u8],
-    place: usize,
-)
-    requires accepted { Accepted (lent_records names numbers types counts starts lengths) buffer.now }
-    requires directory_fits { (length names.now ≤ 999) × (place ≡ directory_place (item_at (lent_records names numbers types counts starts lengths)) (length names.now))
-        × (place < 0x80000000) × (place + 28 * length names.now ≤ length out.old) }
-    ensures { out.new ≡ put out.old 0
-        (file (item_at (lent_records names.entry numbers.entry types.entry counts.entry starts.entry lengths.entry)) buffer.now
-        (length names.now)) }
+pub(crate) fn put_file(items: &LentItems, out: &mut [u8], place: usize)
+    requires accepted { Accepted (records_of items.now) items.now.buffer.now }
+    requires directory_fits { (length items.now.names.now ≤ 999)
+        × (place ≡ directory_place (item_at (records_of items.now)) (length items.now.names.now))
+        × (place < 0x80000000) × (place + 28 * length items.now.names.now ≤ length out.old) }
+    ensures { out.new ≡ put out.old 0 (file (item_at (records_of items.now)) items.now.buffer.now (length items.now.names.now)) }
 {
-    put_header(out, names.len() as u32, place as u32);
-    put_datas(names, numbers, types, counts, starts, lengths, buffer, out);
-    put_entries(
-        names, numbers, types, counts, starts, lengths, buffer, out, place,
-    );
+    put_header(out, items.names.len() as u32, place as u32);
+    put_datas(items, out);
+    put_entries(items, out, place);
 }

@@ -1,16 +1,30 @@
 // The items that the lent records name, and their checks.
 ghost use Rattle.std.specs.Prelude.{◌≡◌, [], ◌<◌, length};
+ghost use Rattle.reading.specs.Answers.{answer_of};
 ghost use Rattle.reading.specs.Check.{answer};
 ghost use Rattle.abif.specs.Entry.{type_of};
-ghost use Rattle.abif_write.specs.Item.{lent_records, item_at, is_taken, written_size, count_check, item_check, tag_below, ordered, items_check};
-ghost use Rattle.abif_write.specs.Private.{SameLengths};
-ghost use Rattle.abif_write.specs.Answers.{answer_of_passing};
+ghost use Rattle.abif_write.specs.Item.{is_taken, written_size, count_check, item_check};
 
 use crate::item_contents::contents_hold;
 use abif::entry::{ElementType, type_of};
-use reading::number::bits16;
+use abif::tag::Tag;
+use reading::refusal::Refusal;
 
-// An item: its tag, its type by its 16 bits, its count, and its part of the data.
+// The records of the items, and the data that they name: element i of each of the first six slices is record i's name, number, type, count, and the
+// start and length of its part of the data. The slices stand side by side because jt_abif_write is lent them so. What
+// writing needs of them (one length, accepted items, each item's part of the data) stands in contracts and in no ghost field: C may lend any slices.
+#[derive(Clone, Copy)]
+pub struct LentItems<'a> {
+    pub names: &'a [u32],
+    pub numbers: &'a [i32],
+    pub types: &'a [i16],
+    pub counts: &'a [u32],
+    pub starts: &'a [u64],
+    pub lengths: &'a [u64],
+    pub buffer: &'a [u8],
+}
+
+// An item: its tag's name and number, its type by its 16 bits, its count, and its part of the data.
 #[derive(Clone, Copy)]
 pub(crate) struct Item {
     pub name: u32,
@@ -21,33 +35,16 @@ pub(crate) struct Item {
     pub size: usize,
 }
 
-// What a group of checks finds: all passed, or the refusal.
-#[derive(Clone, Copy)]
-pub(crate) enum Passing {
-    Pass,
-    Fail(u8),
-}
+impl Item {
+    ghost use Rattle.abif_write.specs.Item.{tag_of};
 
-// Item i of the lent records.
-pub(crate) fn item_at(
-    names: &[u32],
-    numbers: &[i32],
-    types: &[i16],
-    counts: &[u32],
-    starts: &[u64],
-    lengths: &[u64],
-    i: usize,
-) -> Item
-    requires { SameLengths (lent_records names numbers types counts starts lengths) × (i < length names.now) }
-    ensures { result ≡ item_at (lent_records names.entry numbers.entry types.entry counts.entry starts.entry lengths.entry) i }
-{
-    Item {
-        name: names[i],
-        number: numbers[i],
-        element_type: bits16(types[i]),
-        count: counts[i],
-        start: starts[i] as usize,
-        size: lengths[i] as usize,
+    fn tag(self) -> Tag
+        ensures { result ≡ tag_of self }
+    {
+        Tag {
+            name: self.name,
+            number: self.number,
+        }
     }
 }
 
@@ -62,7 +59,7 @@ fn is_taken(code: u16) -> bool
     }
 }
 
-// The element size that is written, 1 for user types.
+// The element size that is written, 1 for user types, where reading has no size: the definitions are two.
 pub(crate) fn written_size(code: u16) -> u16
     ensures { result ≡ written_size (type_of code) }
 {
@@ -73,100 +70,85 @@ pub(crate) fn written_size(code: u16) -> u16
     }
 }
 
-fn count_tests(d: Item) -> Passing
-    ensures { answer_of_passing result ≡ answer (count_check d) [] }
+fn count_tests(d: Item) -> Result<(), Refusal>
+    ensures { answer_of result ≡ answer (count_check d) [] }
 {
-    if 0x8000_0000 <= d.count {
-        return Passing::Fail(9);
+    let whole = written_size(d.element_type) as u64 * d.count as u64;
+    if 0x8000_0000 <= d.count || 0x8000_0000 <= d.size || d.size as u64 != whole {
+        return Err(Refusal::BadSize);
     }
-    if 0x8000_0000 <= d.size {
-        return Passing::Fail(9);
-    }
-    let w = written_size(d.element_type);
-    if d.size as u64 != w as u64 * d.count as u64 {
-        return Passing::Fail(9);
-    }
-    Passing::Pass
+    Ok(())
 }
 
-fn item_tests(buffer: &[u8], d: Item) -> Passing
-    ensures { answer_of_passing result ≡ answer (item_check buffer.now d) [] }
+fn item_tests(buffer: &[u8], d: Item) -> Result<(), Refusal>
+    ensures { answer_of result ≡ answer (item_check buffer.now d) [] }
 {
-    if buffer.len() < d.start {
-        return Passing::Fail(9);
-    }
-    if buffer.len() - d.start < d.size {
-        return Passing::Fail(9);
+    if buffer.len() < d.start || buffer.len() - d.start < d.size {
+        return Err(Refusal::BadSize);
     }
     if !is_taken(d.element_type) {
-        return Passing::Fail(10);
+        return Err(Refusal::OtherType);
     }
-    if let Passing::Fail(e) = count_tests(d) {
-        return Passing::Fail(e);
-    }
+    count_tests(d)?;
     let start = d.start;
     let end = start + d.size;
     if !contents_hold(d.element_type, d.count, &buffer[start..end]) {
-        return Passing::Fail(11);
+        return Err(Refusal::Forbidden);
     }
-    Passing::Pass
+    Ok(())
 }
 
-fn tag_below(a: Item, b: Item) -> bool
-    ensures { result ≡ tag_below a b }
-{
-    if a.name == b.name {
-        return a.number < b.number;
-    }
-    a.name < b.name
-}
+impl LentItems<'_> {
+    ghost use Rattle.abif_write.specs.Item.{records_of, item_at, same_lengths, ordered, items_check};
+    ghost use Rattle.abif_write.specs.Private.{SameLengths};
 
-// Item i stands above the one before it.
-fn in_order(
-    names: &[u32],
-    numbers: &[i32],
-    types: &[i16],
-    counts: &[u32],
-    starts: &[u64],
-    lengths: &[u64],
-    i: usize,
-) -> bool
-    requires { SameLengths (lent_records names numbers types counts starts lengths) × (i < length names.now) }
-    ensures { result ≡ ordered (item_at (lent_records names.entry numbers.entry types.entry counts.entry starts.entry lengths.entry)) i }
-{
-    if i == 0 {
-        return true;
+    pub(crate) fn same_lengths(&self) -> bool
+        ensures { result ≡ same_lengths (records_of self.now) }
+    {
+        let n = self.names.len();
+        self.numbers.len() == n
+            && self.types.len() == n
+            && self.counts.len() == n
+            && self.starts.len() == n
+            && self.lengths.len() == n
     }
-    let a = item_at(names, numbers, types, counts, starts, lengths, i - 1);
-    let b = item_at(names, numbers, types, counts, starts, lengths, i);
-    tag_below(a, b)
-}
 
-pub(crate) fn items_tests(
-    names: &[u32],
-    numbers: &[i32],
-    types: &[i16],
-    counts: &[u32],
-    starts: &[u64],
-    lengths: &[u64],
-    buffer: &[u8],
-) -> Passing
-    requires { SameLengths (lent_records names numbers types counts starts lengths) }
-    ensures { answer_of_passing result ≡ answer
-        (items_check (item_at (lent_records names.entry numbers.entry types.entry counts.entry starts.entry lengths.entry))
-        buffer.now (length names.now) 0) [] }
-{
-    let n = names.len();
-    let mut i = 0;
-    while i < n {
-        let d = item_at(names, numbers, types, counts, starts, lengths, i);
-        if let Passing::Fail(e) = item_tests(buffer, d) {
-            return Passing::Fail(e);
+    // Item i of the lent records.
+    pub(crate) fn item_at(&self, i: usize) -> Item
+        requires same_lengths { SameLengths (records_of self.now) }
+        requires within { i < length self.now.names.now }
+        ensures { result ≡ item_at (records_of self.now) i }
+    {
+        Item {
+            name: self.names[i],
+            number: self.numbers[i],
+            element_type: self.types[i].cast_unsigned(),
+            count: self.counts[i],
+            start: self.starts[i] as usize,
+            size: self.lengths[i] as usize,
         }
-        if !in_order(names, numbers, types, counts, starts, lengths, i) {
-            return Passing::Fail(14);
-        }
-        i += 1;
     }
-    Passing::Pass
+
+    // Item i stands above the one before it.
+    fn in_order(&self, i: usize) -> bool
+        requires same_lengths { SameLengths (records_of self.now) }
+        requires within { i < length self.now.names.now }
+        ensures { result ≡ ordered (item_at (records_of self.now)) i }
+    {
+        i == 0 || self.item_at(i - 1).tag() < self.item_at(i).tag()
+    }
+
+    pub(crate) fn items_tests(&self) -> Result<(), Refusal>
+        requires { SameLengths (records_of self.now) }
+        ensures { answer_of result ≡ answer
+            (items_check (item_at (records_of self.now)) self.now.buffer.now (length self.now.names.now) 0) [] }
+    {
+        for i in 0..self.names.len() {
+            item_tests(self.buffer, self.item_at(i))?;
+            if !self.in_order(i) {
+                return Err(Refusal::NotAscending);
+            }
+        }
+        Ok(())
+    }
 }

@@ -3,6 +3,6 @@
 
 pub(crate) mod entry;
 pub(crate) mod file;
-pub(crate) mod item;
+pub mod item;
 pub(crate) mod item_contents;
 pub mod write;

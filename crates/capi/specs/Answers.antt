@@ -3,7 +3,7 @@ use Rattle.std.specs.Prelude.{ℕ, Float}
 use Rattle.std.specs.Float.{binary32, binary64}
 use Rattle.std.specs.Float.Ieee.{of_bits}
 use Rattle.reading.specs.Check.{Answer, ok, refused}
-use Rattle.reading.specs.Part.{Span}
+use Rattle.reading.specs.declared.part.Span.{Span}
 use Rattle.capi.specs.declared.answers.Verdict.{Verdict}
 use Rattle.reading.specs.declared.item.ItemData.{ItemData}
 use Rattle.capi.specs.declared.answers.Item.{Item}

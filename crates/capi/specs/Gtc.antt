@@ -5,7 +5,7 @@ use Rattle.gtc_records.specs.declared.snp.Snp as snp
 use Rattle.gtc_records.specs.declared.transformation.Transformation.{Transformation}
 use Rattle.gtc.specs.Judge.{Extent}
 use Rattle.gtc_records.specs.Genotype.{ploidy, b_alleles}
-use Rattle.gtc_records.specs.Transformation.{Transformed}
+use Rattle.gtc_records.specs.declared.transformation.Transformed.{Transformed}
 use Rattle.capi.specs.declared.answers.Verdict.{Verdict}
 use Rattle.capi.specs.declared.answers.Snp.{Snp}
 use Rattle.capi.specs.declared.answers.TransformationAnswer.{TransformationAnswer}

@@ -1,16 +1,16 @@
 // The answers that C programs get. `refusal` is 0 for an answer, else the refusal's number, and then every other field is 0, but for a verdict's entry.
+// Each struct has a `From` of its own, since the C interface gives each its own fields: only the arm of a refusal is alike.
 ghost use Rattle.std.specs.Prelude.{◌≡◌};
-ghost use Rattle.reading.specs.Answers.{answer_of_verdict, answer_of_found, answer_of_copied};
-ghost use Rattle.writing.specs.Answers.{answer_of_written};
-ghost use Rattle.capi.specs.Answers.{as_verdict, as_item, as_listed, as_written};
 
 use gtc_records::transformation::Transformation;
-use reading::{bulk, item, verdict};
-use writing::answer;
+use reading::item::ItemData;
+use reading::part::Span;
+use reading::refusal::Refusal;
+use reading::verdict::{Refused, Whole};
 
 // What judging finds; `unjudged` counts a GTC file's entries that are not judged, and `tail` the bytes after the extent.
 #[repr(C)]
-#[derive(Clone, Copy)]
+#[derive(Clone, Copy, Default)]
 pub struct Verdict {
     pub refusal: u64,
     pub entry: u64,
@@ -21,7 +21,7 @@ pub struct Verdict {
 
 // An ABIF file's directory.
 #[repr(C)]
-#[derive(Clone, Copy)]
+#[derive(Clone, Copy, Default)]
 pub struct Opened {
     pub refusal: u64,
     pub place: u64,
@@ -30,7 +30,7 @@ pub struct Opened {
 
 // An item: its type's code, which C calls `type` (in a GTC file its id), its number of elements, and where its data stand.
 #[repr(C)]
-#[derive(Clone, Copy)]
+#[derive(Clone, Copy, Default)]
 pub struct Item {
     pub refusal: u64,
     pub code: u64,
@@ -41,7 +41,7 @@ pub struct Item {
 
 // An element of an ABIF item; `kind` tells which fields hold it.
 #[repr(C)]
-#[derive(Clone, Copy)]
+#[derive(Clone, Copy, Default)]
 pub struct Element {
     pub refusal: u64,
     pub kind: u64,
@@ -58,7 +58,7 @@ pub struct Element {
 
 // Where a part of the caller's bytes stands.
 #[repr(C)]
-#[derive(Clone, Copy)]
+#[derive(Clone, Copy, Default)]
 pub struct Part {
     pub refusal: u64,
     pub start: u64,
@@ -67,7 +67,7 @@ pub struct Part {
 
 // How many of something were put into the lent output.
 #[repr(C)]
-#[derive(Clone, Copy)]
+#[derive(Clone, Copy, Default)]
 pub struct Listed {
     pub refusal: u64,
     pub count: u64,
@@ -75,7 +75,7 @@ pub struct Listed {
 
 // The common header of an SFF file; the flow letters and the key are told by where they start.
 #[repr(C)]
-#[derive(Clone, Copy)]
+#[derive(Clone, Copy, Default)]
 pub struct SffHeader {
     pub refusal: u64,
     pub index_offset: u64,
@@ -90,7 +90,7 @@ pub struct SffHeader {
 
 // A read of an SFF file; base positions count from one.
 #[repr(C)]
-#[derive(Clone, Copy)]
+#[derive(Clone, Copy, Default)]
 pub struct SffRead {
     pub refusal: u64,
     pub start: u64,
@@ -113,7 +113,7 @@ pub struct SffRead {
 
 // The position of a flow, from one.
 #[repr(C)]
-#[derive(Clone, Copy)]
+#[derive(Clone, Copy, Default)]
 pub struct Flow {
     pub refusal: u64,
     pub flow: u64,
@@ -121,7 +121,7 @@ pub struct Flow {
 
 // The length of a file that was written.
 #[repr(C)]
-#[derive(Clone, Copy)]
+#[derive(Clone, Copy, Default)]
 pub struct Written {
     pub refusal: u64,
     pub length: u64,
@@ -130,7 +130,7 @@ pub struct Written {
 // The state of an SFF file that is being written: the stated number of reads, how many of them are written, how many flows each has, and the
 // place behind what is written.
 #[repr(C)]
-#[derive(Clone, Copy)]
+#[derive(Clone, Copy, Default)]
 pub struct SffWriter {
     pub refusal: u64,
     pub reads: u64,
@@ -142,7 +142,7 @@ pub struct SffWriter {
 // A SNP's record: the genotype's code, its number of letters and of those that are B, the letters of the base call, the score's bits, and the
 // intensities.
 #[repr(C)]
-#[derive(Clone, Copy)]
+#[derive(Clone, Copy, Default)]
 pub struct Snp {
     pub refusal: u64,
     pub code: u64,
@@ -157,7 +157,7 @@ pub struct Snp {
 
 // A transformation of a GTC file, with where its 52 bytes stand, so that the bits of a NaN can be had; every field of it is 0 where it is refused.
 #[repr(C)]
-#[derive(Clone, Copy)]
+#[derive(Clone, Copy, Default)]
 pub struct TransformationAnswer {
     pub refusal: u64,
     pub start: u64,
@@ -165,74 +165,109 @@ pub struct TransformationAnswer {
 }
 
 // The verdict on a file of a format that has no unjudged entries.
-pub(crate) fn as_verdict(v: verdict::Verdict) -> Verdict
-    ensures { result ≡ as_verdict (answer_of_verdict v) }
-{
-    match v {
-        verdict::Verdict::Whole { extent, tail } => Verdict {
-            refusal: 0,
-            entry: 0,
-            extent: extent as u64,
-            unjudged: 0,
-            tail: tail as u64,
-        },
-        verdict::Verdict::Refused { number, entry } => Verdict {
-            refusal: number as u64,
-            entry: entry as u64,
-            extent: 0,
-            unjudged: 0,
-            tail: 0,
-        },
+impl From<Result<Whole, Refused>> for Verdict {
+    ghost use Rattle.reading.specs.Answers.{answer_of_verdict};
+    ghost use Rattle.capi.specs.Answers.{as_verdict};
+
+    ghost from_gives = { λ r a. a ≡ as_verdict (answer_of_verdict r) };
+
+    fn from(verdict: Result<Whole, Refused>) -> Verdict {
+        match verdict {
+            Ok(whole) => Verdict {
+                extent: whole.extent as u64,
+                tail: whole.tail as u64,
+                ..Verdict::default()
+            },
+            Err(refused) => Verdict {
+                refusal: refused.refusal.into(),
+                entry: refused.entry as u64,
+                ..Verdict::default()
+            },
+        }
     }
 }
 
 // The item that lookup finds.
-pub(crate) fn as_item(f: item::Found) -> Item
-    ensures { result ≡ as_item (answer_of_found f) }
-{
-    match f {
-        item::Found::Data(q) => Item {
-            refusal: 0,
-            code: q.code as u64,
-            count: q.count as u64,
-            start: q.start as u64,
-            length: q.size as u64,
-        },
-        item::Found::Refused(n) => Item {
-            refusal: n as u64,
-            code: 0,
-            count: 0,
-            start: 0,
-            length: 0,
-        },
+impl From<Result<ItemData, Refusal>> for Item {
+    ghost use Rattle.reading.specs.Answers.{answer_of};
+    ghost use Rattle.capi.specs.Answers.{as_item};
+
+    ghost from_gives = { λ r a. a ≡ as_item (answer_of r) };
+
+    fn from(found: Result<ItemData, Refusal>) -> Item {
+        match found {
+            Ok(data) => Item {
+                refusal: 0,
+                code: data.code as u64,
+                count: data.count as u64,
+                start: data.start as u64,
+                length: data.size as u64,
+            },
+            Err(refusal) => Item {
+                refusal: refusal.into(),
+                ..Item::default()
+            },
+        }
+    }
+}
+
+// Where a part of the caller's bytes stands.
+impl From<Result<Span, Refusal>> for Part {
+    ghost use Rattle.reading.specs.Answers.{answer_of};
+    ghost use Rattle.capi.specs.Answers.{as_part};
+
+    ghost from_gives = { λ r a. a ≡ as_part (answer_of r) };
+
+    fn from(found: Result<Span, Refusal>) -> Part {
+        match found {
+            Ok(span) => Part {
+                refusal: 0,
+                start: span.start as u64,
+                length: span.size as u64,
+            },
+            Err(refusal) => Part {
+                refusal: refusal.into(),
+                ..Part::default()
+            },
+        }
     }
 }
 
 // How many items a call has put into a lent list.
-pub(crate) fn as_listed(n: bulk::Copied) -> Listed
-    ensures { result ≡ as_listed (answer_of_copied n) }
-{
-    match n {
-        bulk::Copied::Count(count) => Listed { refusal: 0, count },
-        bulk::Copied::Refused(number) => Listed {
-            refusal: number as u64,
-            count: 0,
-        },
+impl From<Result<u64, Refusal>> for Listed {
+    ghost use Rattle.reading.specs.Answers.{answer_of};
+    ghost use Rattle.capi.specs.Answers.{as_listed};
+
+    ghost from_gives = { λ r a. a ≡ as_listed (answer_of r) };
+
+    fn from(listed: Result<u64, Refusal>) -> Listed {
+        match listed {
+            Ok(count) => Listed { refusal: 0, count },
+            Err(refusal) => Listed {
+                refusal: refusal.into(),
+                ..Listed::default()
+            },
+        }
     }
 }
 
 // The length of a file that a call has written.
-pub(crate) fn as_written(a: answer::Written) -> Written
-    ensures { result ≡ as_written (answer_of_written a) }
-{
-    match a {
-        answer::Written::Length(n) => Written {
-            refusal: 0,
-            length: n as u64,
-        },
-        answer::Written::Refused(n) => Written {
-            refusal: n as u64,
-            length: 0,
-        },
+impl From<Result<usize, Refusal>> for Written {
+    ghost use Rattle.reading.specs.Answers.{answer_of};
+    ghost use Rattle.capi.specs.Answers.{as_written};
+
+    ghost from_gives = { λ r a. a ≡ as_written (answer_of r) };
+
+    fn from(written: Result<usize, Refusal>) -> Written {
+        match written {
+            Ok(length) => Written {
+                refusal: 0,
+                length: length as u64,
+            },
+            Err(refusal) => Written {
+                refusal: refusal.into(),
+                ..Written::default()
+            },
+        }
     }
 }

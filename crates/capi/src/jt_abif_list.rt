@@ -1,15 +1,13 @@
-// The ABIF calls that list the directory into a list of records, lent by the caller.
+// The ABIF call that lists the directory into a list of records, lent by the caller.
 ghost use Rattle.std.specs.Prelude.{◌≡◌, length};
 ghost use Rattle.reading.specs.Check.{answer, map_answer};
 ghost use Rattle.reading.specs.Lent.{filled};
 ghost use Rattle.abif_file.specs.List.{listing};
-ghost use Rattle.abif_file.specs.Opened.{of_opened};
 ghost use Rattle.capi.specs.Answers.{as_listed};
 
-use crate::answers::{Listed, as_listed};
+use crate::answers::Listed;
 use abif_file::entry::RawEntry;
-use abif_file::file::AbifFile;
-use abif_file::{file, list};
+use abif_file::list;
 
 // All entries, in file order, at the front of the lent list, or a refusal that leaves it as it was.
 #[unsafe(no_mangle)]
@@ -17,26 +15,5 @@ pub extern "C" fn jt_abif_list(s: &[u8], out: &mut [RawEntry]) -> Listed
     ensures { (result ≡ as_listed (map_answer length (answer (listing (length out.old)) s.now)))
         × (out.new ≡ filled (answer (listing (length out.old)) s.now) out.old) }
 {
-    as_listed(list::list(s, out))
-}
-
-// The same of an opened file, whose directory has this place and count.
-#[unsafe(no_mangle)]
-pub extern "C" fn jt_abif_list_opened(
-    s: &[u8],
-    place: u64,
-    count: u64,
-    out: &mut [RawEntry],
-) -> Listed
-    ensures { (result ≡ as_listed (map_answer length (answer (of_opened place count (listing (length out.old))) s.now)))
-        × (out.new ≡ filled (answer (of_opened place count (listing (length out.old))) s.now) out.old) }
-{
-    as_listed(file::list(
-        AbifFile {
-            bytes: s,
-            place,
-            count,
-        },
-        out,
-    ))
+    list::list(s, out).into()
 }

@@ -6,7 +6,8 @@ ghost use Rattle.abif_write.specs.Item.{lent_records};
 ghost use Rattle.abif_write.specs.Write.{writing};
 ghost use Rattle.capi.specs.Answers.{as_written};
 
-use crate::answers::{Written, as_written};
+use crate::answers::Written;
+use abif_write::item::LentItems;
 use abif_write::write;
 
 // The file of the items that the lent records name, at the front of the output; record i of an item is element i of each of the first six slices.
@@ -31,5 +32,14 @@ pub extern "C" fn jt_abif_write(
         (length out.old)) [])
         out.old }
 {
-    as_written(write::write(names, numbers, types, counts, starts, lengths, buffer, out))
+    let items = LentItems {
+        names,
+        numbers,
+        types,
+        counts,
+        starts,
+        lengths,
+        buffer,
+    };
+    write::write(&items, out).into()
 }

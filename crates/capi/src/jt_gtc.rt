@@ -5,45 +5,43 @@ ghost use Rattle.reading.specs.Verdict.{verdict_of};
 ghost use Rattle.reading.specs.Lent.{filled};
 ghost use Rattle.reading.specs.Bulk.{records};
 ghost use Rattle.gtc.specs.Judge.{judging, extent_of};
-ghost use Rattle.gtc.specs.Answers.{answer_of_verdict};
 ghost use Rattle.gtc.specs.Lookup.{looking_up};
-ghost use Rattle.gtc_records.specs.Answers.{answer_of_snp_read, answer_of_transformation_read};
 ghost use Rattle.gtc_records.specs.Snp.{snp_reading};
 ghost use Rattle.gtc_records.specs.Snps.{snps_reading, snp_numbers};
 ghost use Rattle.gtc_records.specs.Transformation.{transformation_reading};
 ghost use Rattle.gtc_records.specs.Normalise.{normalised};
 ghost use Rattle.capi.specs.Answers.{as_item, as_listed};
-ghost use Rattle.capi.specs.Gtc.{as_judged, snp_struct, refused_snp, as_snp, no_transformation, as_transformation};
+ghost use Rattle.capi.specs.Gtc.{as_judged, as_snp, as_transformation};
 
-use crate::answers::{Item, Listed, Snp, TransformationAnswer, Verdict, as_item, as_listed};
+use crate::answers::{Item, Listed, Snp, TransformationAnswer, Verdict};
+use gtc::judge::Whole;
 use gtc::{judge, lookup};
-use gtc_records::genotype::{b_alleles_of, ploidy_of};
 use gtc_records::normalise::Point;
-use gtc_records::transformation::Transformation;
+use gtc_records::transformation::{Transformation, Transformed};
 use gtc_records::{normalise, snp, snps, transformation};
+use reading::refusal::Refusal;
+use reading::verdict::Refused;
 
-fn as_judged(v: judge::Verdict) -> Verdict
-    ensures { result ≡ as_judged (answer_of_verdict v) }
-{
-    match v {
-        judge::Verdict::Whole {
-            extent,
-            unjudged,
-            tail,
-        } => Verdict {
-            refusal: 0,
-            entry: 0,
-            extent: extent as u64,
-            unjudged: unjudged as u64,
-            tail: tail as u64,
-        },
-        judge::Verdict::Refused { number, entry } => Verdict {
-            refusal: number as u64,
-            entry: entry as u64,
-            extent: 0,
-            unjudged: 0,
-            tail: 0,
-        },
+impl From<Result<Whole, Refused>> for Verdict {
+    ghost use Rattle.gtc.specs.Answers.{answer_of_verdict};
+    ghost use Rattle.capi.specs.Gtc.{as_judged};
+
+    ghost from_gives = { λ r a. a ≡ as_judged (answer_of_verdict r) };
+
+    fn from(verdict: Result<Whole, Refused>) -> Verdict {
+        match verdict {
+            Ok(whole) => Verdict {
+                extent: whole.extent as u64,
+                unjudged: whole.unjudged as u64,
+                tail: whole.tail as u64,
+                ..Verdict::default()
+            },
+            Err(refused) => Verdict {
+                refusal: refused.refusal.into(),
+                entry: refused.entry as u64,
+                ..Verdict::default()
+            },
+        }
     }
 }
 
@@ -52,7 +50,7 @@ fn as_judged(v: judge::Verdict) -> Verdict
 pub extern "C" fn jt_gtc_judge(s: &[u8]) -> Verdict
     ensures { result ≡ as_judged (verdict_of judging extent_of s.now) }
 {
-    as_judged(judge::judge(s))
+    judge::judge(s).into()
 }
 
 // The item with this id.
@@ -60,48 +58,33 @@ pub extern "C" fn jt_gtc_judge(s: &[u8]) -> Verdict
 pub extern "C" fn jt_gtc_lookup(s: &[u8], id: u16) -> Item
     ensures { result ≡ as_item (answer (looking_up id) s.now) }
 {
-    as_item(lookup::lookup(s, id))
+    lookup::lookup(s, id).into()
 }
 
-fn snp_struct(r: snp::Snp) -> Snp
-    ensures { result ≡ snp_struct r }
-{
-    let g = r.genotype;
-    Snp {
-        refusal: 0,
-        code: r.code as u64,
-        ploidy: ploidy_of(g) as u64,
-        b_alleles: b_alleles_of(g) as u64,
-        call_1: r.call_1 as u64,
-        call_2: r.call_2 as u64,
-        score_bits: r.score_bits as u64,
-        x: r.x as u64,
-        y: r.y as u64,
-    }
-}
+impl From<Result<snp::Snp, Refusal>> for Snp {
+    ghost use Rattle.reading.specs.Answers.{answer_of};
+    ghost use Rattle.capi.specs.Gtc.{as_snp};
 
-fn refused_snp(refusal: u8) -> Snp
-    ensures { result ≡ refused_snp refusal }
-{
-    Snp {
-        refusal: refusal as u64,
-        code: 0,
-        ploidy: 0,
-        b_alleles: 0,
-        call_1: 0,
-        call_2: 0,
-        score_bits: 0,
-        x: 0,
-        y: 0,
-    }
-}
+    ghost from_gives = { λ r a. a ≡ as_snp (answer_of r) };
 
-fn as_snp(r: snp::SnpRead) -> Snp
-    ensures { result ≡ as_snp (answer_of_snp_read r) }
-{
-    match r {
-        snp::SnpRead::At(d) => snp_struct(d),
-        snp::SnpRead::Refused(n) => refused_snp(n),
+    fn from(found: Result<snp::Snp, Refusal>) -> Snp {
+        match found {
+            Ok(r) => Snp {
+                refusal: 0,
+                code: r.code as u64,
+                ploidy: r.genotype.ploidy() as u64,
+                b_alleles: r.genotype.b_alleles() as u64,
+                call_1: r.call_1 as u64,
+                call_2: r.call_2 as u64,
+                score_bits: r.score_bits as u64,
+                x: r.x as u64,
+                y: r.y as u64,
+            },
+            Err(refusal) => Snp {
+                refusal: refusal.into(),
+                ..Snp::default()
+            },
+        }
     }
 }
 
@@ -110,7 +93,7 @@ fn as_snp(r: snp::SnpRead) -> Snp
 pub extern "C" fn jt_gtc_snp(s: &[u8], index: u64) -> Snp
     ensures { result ≡ as_snp (answer (snp_reading index) s.now) }
 {
-    as_snp(snp::read_snp(s, index))
+    snp::read_snp(s, index).into()
 }
 
 // Nine numbers for each SNP: the fields of its record in their order.
@@ -121,44 +104,27 @@ pub extern "C" fn jt_gtc_snps(s: &[u8], first: u64, out: &mut [u64]) -> Listed
         (map_answer (records 9 snp_numbers) (answer (snps_reading first (length out.old)) s.now))
         out.old }
 {
-    as_listed(snps::read_snps(s, first, out))
+    snps::read_snps(s, first, out).into()
 }
 
-// The transformation of a refusal.
-fn no_transformation() -> Transformation
-    ensures { result ≡ no_transformation }
-{
-    Transformation {
-        version: 0,
-        offset_x: 0.0,
-        offset_y: 0.0,
-        scale_x: 0.0,
-        scale_y: 0.0,
-        shear: 0.0,
-        theta: 0.0,
-        reserved_1: 0.0,
-        reserved_2: 0.0,
-        reserved_3: 0.0,
-        reserved_4: 0.0,
-        reserved_5: 0.0,
-        reserved_6: 0.0,
-    }
-}
+impl From<Result<Transformed, Refusal>> for TransformationAnswer {
+    ghost use Rattle.reading.specs.Answers.{answer_of};
+    ghost use Rattle.capi.specs.Gtc.{as_transformation};
 
-fn as_transformation(r: transformation::TransformationRead) -> TransformationAnswer
-    ensures { result ≡ as_transformation (answer_of_transformation_read r) }
-{
-    match r {
-        transformation::TransformationRead::At { start, value } => TransformationAnswer {
-            refusal: 0,
-            start: start as u64,
-            value,
-        },
-        transformation::TransformationRead::Refused(n) => TransformationAnswer {
-            refusal: n as u64,
-            start: 0,
-            value: no_transformation(),
-        },
+    ghost from_gives = { λ r a. a ≡ as_transformation (answer_of r) };
+
+    fn from(found: Result<Transformed, Refusal>) -> TransformationAnswer {
+        match found {
+            Ok(transformed) => TransformationAnswer {
+                refusal: 0,
+                start: transformed.start as u64,
+                value: transformed.value,
+            },
+            Err(refusal) => TransformationAnswer {
+                refusal: refusal.into(),
+                ..TransformationAnswer::default()
+            },
+        }
     }
 }
 
@@ -167,7 +133,7 @@ fn as_transformation(r: transformation::TransformationRead) -> TransformationAns
 pub extern "C" fn jt_gtc_transformation(s: &[u8], k: u64) -> TransformationAnswer
     ensures { result ≡ as_transformation (answer (transformation_reading k) s.now) }
 {
-    as_transformation(transformation::read_transformation(s, k))
+    transformation::read_transformation(s, k).into()
 }
 
 // Two intensities normalised, with the cosine and the sine of theta handed in.

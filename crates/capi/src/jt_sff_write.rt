@@ -3,49 +3,60 @@ ghost use Rattle.std.specs.Prelude.{◌≡◌, [], length};
 ghost use Rattle.reading.specs.Check.{answer, map_answer};
 ghost use Rattle.sff_write.specs.Read.{lent_read};
 ghost use Rattle.sff_write.specs.Write.{behind, written_at, beginning, adding, finishing};
-ghost use Rattle.sff_write.specs.Answers.{answer_of_advanced};
+ghost use Rattle.reading.specs.Answers.{answer_of};
 ghost use Rattle.capi.specs.Answers.{as_written};
-ghost use Rattle.capi.specs.SffWrite.{state_of, writer_struct, as_writer, as_added, clips_of};
+ghost use Rattle.capi.specs.SffWrite.{state_of, as_writer, as_added, clips_of};
 
-use crate::answers::{SffWriter, Written, as_written};
-use sff_write::read::Clips;
+use crate::answers::{SffWriter, Written};
+use reading::refusal::Refusal;
+use sff_write::read::{Clips, GivenRead};
 use sff_write::write;
 
-fn state_of(w: SffWriter) -> write::Writer
-    ensures { result ≡ state_of w }
-{
-    write::Writer {
-        reads: w.reads,
-        written: w.written,
-        flows: w.flows,
-        at: w.at as usize,
+impl From<SffWriter> for write::Writer {
+    ghost use Rattle.capi.specs.SffWrite.{state_of};
+
+    ghost from_gives = { λ w a. a ≡ state_of w };
+
+    fn from(w: SffWriter) -> write::Writer {
+        write::Writer {
+            reads: w.reads,
+            written: w.written,
+            flows: w.flows,
+            at: w.at as usize,
+        }
     }
 }
 
-fn writer_struct(w: write::Writer) -> SffWriter
-    ensures { result ≡ writer_struct w }
-{
-    SffWriter {
-        refusal: 0,
-        reads: w.reads,
-        written: w.written,
-        flows: w.flows,
-        at: w.at as u64,
+impl From<write::Writer> for SffWriter {
+    ghost use Rattle.capi.specs.SffWrite.{writer_struct};
+
+    ghost from_gives = { λ w a. a ≡ writer_struct w };
+
+    fn from(w: write::Writer) -> SffWriter {
+        SffWriter {
+            refusal: 0,
+            reads: w.reads,
+            written: w.written,
+            flows: w.flows,
+            at: w.at as u64,
+        }
     }
 }
 
-fn as_writer(a: write::Advanced) -> SffWriter
-    ensures { result ≡ as_writer (answer_of_advanced a) }
-{
-    match a {
-        write::Advanced::To(w) => writer_struct(w),
-        write::Advanced::Refused(n) => SffWriter {
-            refusal: n as u64,
-            reads: 0,
-            written: 0,
-            flows: 0,
-            at: 0,
-        },
+impl From<Result<write::Writer, Refusal>> for SffWriter {
+    ghost use Rattle.reading.specs.Answers.{answer_of};
+    ghost use Rattle.capi.specs.SffWrite.{as_writer};
+
+    ghost from_gives = { λ r a. a ≡ as_writer (answer_of r) };
+
+    fn from(written: Result<write::Writer, Refusal>) -> SffWriter {
+        match written {
+            Ok(w) => w.into(),
+            Err(refusal) => SffWriter {
+                refusal: refusal.into(),
+                ..SffWriter::default()
+            },
+        }
     }
 }
 
@@ -63,21 +74,18 @@ pub extern "C" fn jt_sff_begin(
         (answer (beginning reads flow_letters.now key_letters.now (length out.old)) [])
         out.old }
 {
-    as_writer(write::begin(reads, flow_letters, key_letters, out))
+    write::begin(reads, flow_letters, key_letters, out).into()
 }
 
-// A refused read leaves the state as it was, so that the next call may go on.
-fn as_added(w: SffWriter, a: write::Advanced) -> SffWriter
-    ensures { result ≡ as_added w (answer_of_advanced a) }
+// A refused read leaves the state as it was, so that the next call may go on. No `From`, since the refusal does not hold that state.
+fn as_added(w: SffWriter, added: Result<write::Writer, Refusal>) -> SffWriter
+    ensures { result ≡ as_added w (answer_of added) }
 {
-    match a {
-        write::Advanced::To(v) => writer_struct(v),
-        write::Advanced::Refused(n) => SffWriter {
-            refusal: n as u64,
-            reads: w.reads,
-            written: w.written,
-            flows: w.flows,
-            at: w.at,
+    match added {
+        Ok(behind) => behind.into(),
+        Err(refusal) => SffWriter {
+            refusal: refusal.into(),
+            ..w
         },
     }
 }
@@ -117,11 +125,15 @@ pub extern "C" fn jt_sff_add(
         adapter_left,
         adapter_right,
     };
-    let state = state_of(w);
-    as_added(
-        w,
-        write::add(state, name, flows, steps, letters, qualities, clips, out),
-    )
+    let read = GivenRead {
+        name,
+        flows,
+        steps,
+        letters,
+        qualities,
+        clips,
+    };
+    as_added(w, write::add(w.into(), &read, out))
 }
 
 // The length of the file, where as many reads are written as were stated.
@@ -129,5 +141,5 @@ pub extern "C" fn jt_sff_add(
 pub extern "C" fn jt_sff_finish(w: SffWriter) -> Written
     ensures { result ≡ as_written (answer (finishing (state_of w)) []) }
 {
-    as_written(write::finish(state_of(w)))
+    write::finish(w.into()).into()
 }

@@ -4,31 +4,16 @@ ghost use Rattle.reading.specs.Choice.{pick};
 ghost use Rattle.reading.specs.Check.{answer, ok, refused};
 ghost use Rattle.contents.specs.Steps.{steps_check, step_sum};
 
-use reading::number::{byte, wide16};
-
 // The sum of a few steps, in 16 bits: the machine adds more of them at once than in 64.
 fn chunk_sum(steps: &[u8]) -> u16
     requires { length steps.now ≤ 256 }
     ensures { result ≡ step_sum steps.now 0 (length steps.now) }
 {
-    let n = steps.len();
     let mut sum = 0;
-    let mut i = 0;
-    while i < n {
-        sum += wide16(byte(steps, i));
-        i += 1;
+    for step in steps {
+        sum += u16::from(*step);
     }
     sum
-}
-
-fn chunk_end(at: usize, n: usize) -> usize
-    requires { at < n }
-    ensures { (at < result) × (result ≤ n) × (result ≤ at + 256) }
-{
-    if n - at < 256 {
-        return n;
-    }
-    at + 256
 }
 
 // The sum of the steps, or the number past the most where it is past that: from there on nothing is added.
@@ -37,16 +22,12 @@ fn sum_up_to(most: u64, steps: &[u8]) -> u64
     ensures { (result ≡ min (step_sum steps.now 0 (length steps.now)) (most + 1))
         × (result ≤ 65536 * length steps.now) }
 {
-    let n = steps.len();
     let mut sum = 0;
-    let mut at = 0;
-    while at < n {
-        let end = chunk_end(at, n);
-        sum += chunk_sum(&steps[at..end]) as u64;
+    for chunk in steps.chunks(256) {
+        sum += u64::from(chunk_sum(chunk));
         if most < sum {
             return most + 1;
         }
-        at = end;
     }
     sum
 }
@@ -59,23 +40,13 @@ pub fn sum_of(steps: &[u8]) -> u64
     sum_up_to(0xffffffffffff, steps)
 }
 
-// The sum of the steps is not past the flows.
-fn sum_within(flows: u16, steps: &[u8]) -> bool
-    ensures { result ≡ leb (step_sum steps.now 0 (length steps.now)) flows }
-{
-    let most = flows as u64;
-    sum_up_to(most, steps) <= most
-}
-
 // The first step is at least 1, and no running sum passes the flows: sums never fall, so the last one tells.
 pub fn steps_hold(flows: u16, steps: &[u8]) -> bool
     ensures { (l : List ℕ) → pick result (ok tt) (refused 11 0) ≡ answer (steps_check flows steps.now 0 (length steps.now)) l }
 {
-    if steps.len() == 0 {
-        return true;
+    let most = u64::from(flows);
+    match steps.first() {
+        Some(first) => 1 <= *first && sum_up_to(most, steps) <= most,
+        None => true,
     }
-    if byte(steps, 0) < 1 {
-        return false;
-    }
-    sum_within(flows, steps)
 }

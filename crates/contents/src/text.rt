@@ -1,30 +1,14 @@
 // The rules of texts.
-ghost use Rattle.std.specs.Prelude.{◌≡◌, true, eqb, length};
-ghost use Rattle.reading.specs.Choice.{pick};
+ghost use Rattle.std.specs.Prelude.{◌≡◌, length};
 ghost use Rattle.contents.specs.Text.{zero_among, is_pstring, is_cstring};
 
-use reading::number::byte;
-
-// A zero was found before, or the byte is one.
-fn zero_or(found: bool, b: u8) -> bool
-    ensures { result ≡ pick (eqb b 0) true found }
-{
-    if b == 0 {
-        return true;
-    }
-    found
-}
-
 // One of the bytes is zero. All of them are looked at, with no way out in between, so that the machine takes many at once.
-fn has_zero(l: &[u8]) -> bool
-    ensures { result ≡ zero_among l.now 0 (length l.now) }
+fn has_zero(bytes: &[u8]) -> bool
+    ensures { result ≡ zero_among bytes.now 0 (length bytes.now) }
 {
-    let n = l.len();
     let mut found = false;
-    let mut i = 0;
-    while i < n {
-        found = zero_or(found, l[i]);
-        i += 1;
+    for b in bytes {
+        found |= *b == 0;
     }
     found
 }
@@ -33,24 +17,18 @@ fn has_zero(l: &[u8]) -> bool
 pub fn p_string_holds(bytes: &[u8]) -> bool
     ensures { result ≡ is_pstring bytes.now }
 {
-    let n = bytes.len();
-    if n < 1 {
-        return false;
+    match bytes.split_first() {
+        Some((first, rest)) => usize::from(*first) == rest.len(),
+        None => false,
     }
-    byte(bytes, 0) as usize == n - 1
 }
 
 // The bytes are those of a cString.
 pub fn c_string_holds(bytes: &[u8]) -> bool
     ensures { result ≡ is_cstring bytes.now }
 {
-    let n = bytes.len();
-    if n < 1 {
-        return false;
+    match bytes.split_last() {
+        Some((last, before)) => *last == 0 && !has_zero(before),
+        None => false,
     }
-    let last = n - 1;
-    if byte(bytes, last) != 0 {
-        return false;
-    }
-    !has_zero(&bytes[..last])
 }

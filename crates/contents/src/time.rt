@@ -3,17 +3,9 @@ ghost use Rattle.std.specs.Prelude.{◌≡◌};
 ghost use Rattle.contents.specs.Time.{is_time};
 
 // The fields are those of a time.
+#[tactic(auto, using(std::proofs::lemmas::Bool::Decides::nat_tests), unfolding(crate::specs::Time::is_time))]
 pub fn time_holds(hour: u8, minute: u8, second: u8, hundredth: u8) -> bool
     ensures { result ≡ is_time hour minute second hundredth }
 {
-    if 23 < hour {
-        return false;
-    }
-    if 59 < minute {
-        return false;
-    }
-    if 59 < second {
-        return false;
-    }
-    hundredth <= 99
+    hour <= 23 && minute <= 59 && second <= 59 && hundredth <= 99
 }

@@ -10,7 +10,7 @@ use Rattle.gtc.specs.declared.item.Shape.{Shape}
 use Rattle.gtc.specs.declared.item.Shape.TheVariants.{Array, SnpArray}
 use Rattle.gtc.specs.declared.item.Stored.{Stored}
 use Rattle.gtc.specs.declared.item.Stored.TheVariants.{Shaped}
-use Rattle.gtc.specs.declared.item.Listing.TheVariants.{Listed}
+use Rattle.std.specs.Prelude.{Some}
 use Rattle.reading.specs.declared.item.ItemData.{ItemData}
 use Rattle.gtc.specs.Table.{Table, table}
 use Rattle.gtc.specs.Entry.{entry_with}
@@ -24,7 +24,7 @@ record Shapes (z : Shape) (s : List ℕ) (q : ItemData) : Type 0 where
   entry : Entry
   passed : answer (shape_check z contents.up_to contents.count entry) s ≡ ok q
 
-shaped : (k : ℕ) (z : Shape) (s : List ℕ) (q : ItemData) → listing_of k ≡ Listed (Shaped z) → answer (looking_up k) s ≡ ok q → Shapes z s q
+shaped : (k : ℕ) (z : Shape) (s : List ℕ) (q : ItemData) → listing_of k ≡ Some (Shaped z) → answer (looking_up k) s ≡ ok q → Shapes z s q
 unfolding looking_up lookup_in lookup_listed item_check shaped_check
 shaped k z s q e w =
     let t = bind_ok table _ s q w in
@@ -41,7 +41,7 @@ sized w d n s q h =
     let e = done_ok _ q s a.2 in
     (ap (λ (x : ItemData). x.count) (sym e), ap (λ (x : ItemData). x.size) (sym e) ∙ ap (λ (x : ItemData). w * x.count) e)
 
-pub array_sized : (k w : ℕ) (s : List ℕ) (q : ItemData) → listing_of k ≡ Listed (Shaped (Array w)) → answer (looking_up k) s ≡ ok q → q.size ≡ w * q.count
+pub array_sized : (k w : ℕ) (s : List ℕ) (q : ItemData) → listing_of k ≡ Some (Shaped (Array w)) → answer (looking_up k) s ≡ ok q → q.size ≡ w * q.count
 unfolding shape_check
 array_sized k w s q e h =
     let f = shaped k (Array w) s q e h in
@@ -57,7 +57,7 @@ pub record OfSnps (w : ℕ) (s : List ℕ) (q : ItemData) : Type 0 where
   pub known : answer (entry_with contents.up_to contents.count num_snps_id) s ≡ ok snps
   pub count : q.count ≡ snps.offset
 
-pub of_snps : (k w : ℕ) (s : List ℕ) (q : ItemData) → listing_of k ≡ Listed (Shaped (SnpArray w)) → answer (looking_up k) s ≡ ok q → OfSnps w s q
+pub of_snps : (k w : ℕ) (s : List ℕ) (q : ItemData) → listing_of k ≡ Some (Shaped (SnpArray w)) → answer (looking_up k) s ≡ ok q → OfSnps w s q
 unfolding shape_check snp_check
 of_snps k w s q e h =
     let f = shaped k (SnpArray w) s q e h in

@@ -14,8 +14,8 @@ use Rattle.reading.proofs.Reach.{reach_none, reach_under, reach_must_under}
 use Rattle.reading.proofs.Entries.{beyond, order_ends}
 use Rattle.gtc.specs.declared.entry.Entry.{Entry}
 use Rattle.gtc.specs.declared.item.Stored.{Stored}
-use Rattle.gtc.specs.declared.item.Listing.{Listing}
-use Rattle.gtc.specs.declared.item.Listing.TheVariants.{Listed, Unlisted}
+use Rattle.std.specs.Prelude.{Option}
+use Rattle.std.specs.Prelude.{Some, None}
 use Rattle.reading.specs.declared.item.ItemData.{ItemData}
 use Rattle.gtc.specs.Table.{Table, table_end, mark_check, count_check, table, place_of_entry}
 use Rattle.gtc.specs.Entry.{entry_of}
@@ -46,7 +46,7 @@ table_reach s t w =
 
 -- the checks of an entry whose id is listed need no more than x bytes
 abbrev Within : List ℕ → ℕ → List ℕ → ℕ → Entry → Type 0
-Within h n s x d = (v : Stored) → listing_of d.id ≡ Listed v → reach (item_check v h n d) s ≤ x
+Within h n s x d = (v : Stored) → listing_of d.id ≡ Some v → reach (item_check v h n d) s ≤ x
 
 -- an entry's end is what judging it needs beyond the table, and a listed entry's own checks need no more
 entry_end : (h : List ℕ) (n i : ℕ) (s : List ℕ) (y : ℕ) → answer (judge_entry h n i) s ≡ ok y → (max (table_end (i + 1)) (reach (judge_entry h n i) s) ≡ max (table_end (i + 1)) y) × Within h n s (max (table_end (i + 1)) y) (entry_of h (place_of_entry i))
@@ -56,15 +56,15 @@ entry_end h n i s y w = go (listing_of d.id) refl w
     d : Entry
     d = entry_of h (place_of_entry i)
 
-    go : (l : Listing) → listing_of d.id ≡ l → answer (judge_as l h n i d) s ≡ ok y → (max (table_end (i + 1)) (reach (judge_as l h n i d) s) ≡ max (table_end (i + 1)) y) × Within h n s (max (table_end (i + 1)) y) d
-    go (Listed v) f q =
+    go : (l : Option Stored) → listing_of d.id ≡ l → answer (judge_as l h n i d) s ≡ ok y → (max (table_end (i + 1)) (reach (judge_as l h n i d) s) ≡ max (table_end (i + 1)) y) × Within h n s (max (table_end (i + 1)) y) d
+    go (Some v) f q =
         let a = bind_ok _ _ s y q in
         let b = bind_ok (item_check v h n d) _ s y a.2 in
         let z : item_end b.0 ≡ y = done_ok _ y s b.2 in
         let e = item_end_lem v h n d s b.0 b.1 in
         let p : d.place ≡ place_of_entry i = entry_place h (place_of_entry i) in
         (simp (a.3, b.3, reach_must, reach_done) (omega arith), λ u r. let k : v ≡ u = cc in rw (← k) (omega arith))
-    go Unlisted f q =
+    go None f q =
         let z : 0 ≡ y = done_ok 0 y s q in
         (simp reach_done (omega arith), λ u r. let k : ◌≡◌ {A = ℕ} 0 1 = cc in absurd (omega arith))
 

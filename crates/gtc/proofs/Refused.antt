@@ -8,8 +8,8 @@ use Rattle.gtc.specs.declared.item.Shape.{Shape}
 use Rattle.gtc.specs.declared.item.Shape.TheVariants.{Text, Array, SnpArray, Scanner, Block}
 use Rattle.gtc.specs.declared.item.Stored.{Stored}
 use Rattle.gtc.specs.declared.item.Stored.TheVariants.{Value, Shaped}
-use Rattle.gtc.specs.declared.item.Listing.{Listing}
-use Rattle.gtc.specs.declared.item.Listing.TheVariants.{Listed, Unlisted}
+use Rattle.std.specs.Prelude.{Option}
+use Rattle.std.specs.Prelude.{Some, None}
 use Rattle.gtc.specs.Table.{mark_check, count_check, table, table_end}
 use Rattle.gtc.specs.Entry.{has_id, entry_with}
 use Rattle.gtc.specs.Item.{listing_of, string_end, scanner_rest, scanner_end, array_count, elements_of, snp_check, shape_check, shaped_check, item_check}
@@ -44,10 +44,10 @@ module _ (P : ℕ → ℕ → Type 0) (s : List ℕ) (cut : P 1 0) where
     item_refuses a Value h n d = refuses_done P _ s
     item_refuses a (Shaped z) h n d = refuses_bind P _ _ s (refuses_must P _ _ 6 s (λ _. a)) (λ _ _. shape_refuses z h n d)
 
-    judged_refuses : P 6 0 → (l : Listing) (h : List ℕ) (n i : ℕ) (d : Entry) → Refuses P (judge_as l h n i d) s
+    judged_refuses : P 6 0 → (l : Option Stored) (h : List ℕ) (n i : ℕ) (d : Entry) → Refuses P (judge_as l h n i d) s
     unfolding judge_as
-    judged_refuses a Unlisted h n i d = refuses_done P _ s
-    judged_refuses a (Listed v) h n i d = refuses_bind P _ _ s (refuses_must P _ _ 8 s (λ _. twice)) (λ _ _. refuses_bind P _ _ s (item_refuses a v h n d) (λ q _. refuses_done P _ s))
+    judged_refuses a None h n i d = refuses_done P _ s
+    judged_refuses a (Some v) h n i d = refuses_bind P _ _ s (refuses_must P _ _ 8 s (λ _. twice)) (λ _ _. refuses_bind P _ _ s (item_refuses a v h n d) (λ q _. refuses_done P _ s))
 
 -- judging reports each entry by its number
 pub judging_refuses : (P : ℕ → ℕ → Type 0) (s : List ℕ) → ((e : ℕ) → P 1 e) → P 2 0 → P 3 0 → P 4 0 → P 5 0 → ((e : ℕ) → P 6 e) → ((e : ℕ) → P 7 e) → ((e : ℕ) → P 8 e) → ((e : ℕ) → P 9 e) → Refuses P judging s

@@ -1,5 +1,5 @@
 -- GTC: the items of Table 3 and their checks.
-use Rattle.std.specs.Prelude.{ℕ, ◌+◌, ◌-◌, ◌*◌, List, [], ◌∷◌, Bool, true, false, eqb}
+use Rattle.std.specs.Prelude.{ℕ, ◌+◌, ◌-◌, ◌*◌, List, [], ◌∷◌, Bool, true, false, eqb, Option, Some, None}
 use Rattle.reading.specs.Choice.{pick}
 use Rattle.reading.specs.Number.{le}
 use Rattle.reading.specs.declared.check.Field.{Field}
@@ -11,8 +11,6 @@ use Rattle.gtc.specs.declared.item.Shape.{Shape}
 use Rattle.gtc.specs.declared.item.Shape.TheVariants.{Text, Array, SnpArray, Scanner, Block}
 use Rattle.gtc.specs.declared.item.Stored.{Stored}
 use Rattle.gtc.specs.declared.item.Stored.TheVariants.{Value, Shaped}
-use Rattle.gtc.specs.declared.item.Listing.{Listing}
-use Rattle.gtc.specs.declared.item.Listing.TheVariants.{Listed, Unlisted}
 use Rattle.gtc.specs.Table.{table_end}
 use Rattle.gtc.specs.Entry.{offset_field, entry_with}
 
@@ -83,18 +81,18 @@ base_calls_id = 1003
 abbrev pub genotype_scores_id : ℕ
 genotype_scores_id = 1004
 
-unfoldable pub listing_in : List Row → ℕ → Listing
-listing_in [] id = Unlisted
-listing_in (r ∷ rs) id = pick (eqb id r.id) (Listed r.stored) (listing_in rs id)
+unfoldable pub listing_in : List Row → ℕ → Option Stored
+listing_in [] id = None
+listing_in (r ∷ rs) id = pick (eqb id r.id) (Some r.stored) (listing_in rs id)
 
--- what Table 3 says of an id
-unfoldable pub listing_of : ℕ → Listing
+-- what Table 3 says of an id: how its data are stored, or nothing
+unfoldable pub listing_of : ℕ → Option Stored
 unfolding listing_in
 listing_of id = listing_in rows id
 
-abbrev pub is_listed : Listing → Bool
-is_listed (Listed stored) = true
-is_listed Unlisted = false
+abbrev pub is_listed : Option Stored → Bool
+is_listed (Some stored) = true
+is_listed None = false
 
 -- a string is one length byte, then that many: the end of the one at this place
 unfoldable pub string_end : ℕ → Check ℕ

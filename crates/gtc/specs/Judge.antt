@@ -1,20 +1,16 @@
 -- GTC: judging.
-use Rattle.std.specs.Prelude.{ℕ, zero, suc, ◌+◌, List, Bool, not}
+use Rattle.std.specs.Prelude.{ℕ, zero, suc, ◌+◌, List, Bool, not, Option, Some, None}
 use Rattle.reading.specs.Choice.{pick}
 use Rattle.reading.specs.Number.{le}
 use Rattle.reading.specs.declared.check.Rule.TheVariants.{Other}
+use Rattle.reading.specs.declared.check.Requirement.TheVariants.{NewId}
 use Rattle.reading.specs.Check.{Check, done, must, ◌>>=◌, ◌>>◌}
 use Rattle.reading.specs.Entries.{some_with, in_order}
 use Rattle.gtc.specs.declared.entry.Entry.{Entry}
-use Rattle.gtc.specs.declared.item.Listing.{Listing}
-use Rattle.gtc.specs.declared.item.Listing.TheVariants.{Listed, Unlisted}
+use Rattle.gtc.specs.declared.item.Stored.{Stored}
 use Rattle.gtc.specs.Table.{table, place_of_entry, table_end}
 use Rattle.gtc.specs.Entry.{entry_of, id_field, has_id}
 use Rattle.gtc.specs.Item.{listing_of, is_listed, item_check, item_end}
-
--- the requirement that is no comparison with a number: an id that no earlier entry has
-abbrev pub new_id : ℕ
-new_id = 1
 
 -- one of the first i entries has this id
 abbrev pub is_earlier : List ℕ → ℕ → ℕ → Bool
@@ -22,10 +18,10 @@ is_earlier table id i = some_with (has_id table id) i
 
 -- judging an entry, which is entry i, counted from 0, by what Table 3 says of its id: the end of its item. An unlisted id is not checked further, and 0
 -- stands for its end; else earlier equal id 8, then the item's checks.
-unfoldable pub judge_as : Listing → List ℕ → ℕ → ℕ → Entry → Check ℕ
-judge_as Unlisted table count i entry = done 0
-judge_as (Listed stored) table count i entry = do
-  must (id_field entry) (Other new_id (not (is_earlier table entry.id i))) 8
+unfoldable pub judge_as : Option Stored → List ℕ → ℕ → ℕ → Entry → Check ℕ
+judge_as None table count i entry = done 0
+judge_as (Some stored) table count i entry = do
+  must (id_field entry) (Other NewId (not (is_earlier table entry.id i))) 8
   item ← item_check stored table count entry
   done (item_end item)
 

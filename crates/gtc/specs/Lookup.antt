@@ -1,19 +1,17 @@
 -- GTC: lookup of an id.
-use Rattle.std.specs.Prelude.{ℕ, List}
+use Rattle.std.specs.Prelude.{ℕ, List, Option, Some, None}
 use Rattle.reading.specs.Check.{Check, provided, ◌>>=◌, ◌>>◌}
 use Rattle.reading.specs.declared.item.ItemData.{ItemData}
 use Rattle.gtc.specs.declared.item.Stored.{Stored}
 use Rattle.gtc.specs.declared.item.Stored.TheVariants.{Value}
-use Rattle.gtc.specs.declared.item.Listing.{Listing}
-use Rattle.gtc.specs.declared.item.Listing.TheVariants.{Listed, Unlisted}
 use Rattle.gtc.specs.Table.{table}
 use Rattle.gtc.specs.Entry.{entry_with}
 use Rattle.gtc.specs.Item.{listing_of, is_listed, item_check}
 
 -- how a listed id's data are stored; only a listed one is asked for
-abbrev pub stored_of : Listing → Stored
-stored_of (Listed stored) = stored
-stored_of Unlisted = Value
+abbrev pub stored_of : Option Stored → Stored
+stored_of (Some stored) = stored
+stored_of None = Value
 
 -- lookup of an id whose data are stored so: no entry 7, two or more 8, then the entry's checks
 unfoldable pub lookup_listed : Stored → List ℕ → ℕ → ℕ → Check ItemData

@@ -65,8 +65,3 @@ table = do
   count_check (le 4 header 4)
   up_to ← need header_size (table_end (le 4 header 4))
   done (record { count = le 4 header 4; up_to = up_to })
-
-unfoldable pub entry_count : Check ℕ
-entry_count = do
-  contents ← table
-  done contents.count

@@ -1,168 +1,111 @@
 // Judging.
-ghost use Rattle.std.specs.Prelude.{◌≡◌, ◌+◌, ◌≤◌, ◌<◌, length};
-ghost use Rattle.reading.specs.Choice.{pick};
-ghost use Rattle.reading.specs.Number.{le};
+ghost use Rattle.std.specs.Prelude.{◌≡◌, ◌≤◌, ◌<◌, Some};
 ghost use Rattle.reading.specs.Check.{run};
 ghost use Rattle.reading.specs.Verdict.{verdict_of};
 ghost use Rattle.reading.specs.Entries.{in_order};
-ghost use Rattle.reading.specs.Explain.{explanation_of};
-ghost use Rattle.reading.specs.Answers.{outcome_of_ended};
-ghost use Rattle.gtc.specs.Table.{place_of_entry, table_end};
-ghost use Rattle.gtc.specs.declared.item.Listing.TheVariants.{Listed};
-ghost use Rattle.gtc.specs.Item.{listing_of, is_listed};
+ghost use Rattle.reading.specs.Answers.{outcome_of, outcome_of_judged};
+ghost use Rattle.gtc.specs.Table.{table_end};
 ghost use Rattle.gtc.specs.Judge.{is_earlier, judge_as, judge_entry, unjudged_among, judge_table, judging, extent_of};
 ghost use Rattle.gtc.specs.Answers.{answer_of_verdict};
 
-use crate::entry::{Entry, entry_at, first_id, id_field};
-use crate::item::{ItemRead, Listing, Stored, is_listed, item_tests, listing_of};
-use crate::table::{Counted, entry_place, read_table, table_end};
-use reading::check::{Ended, Explanation, Rule, Test};
-use reading::number::le16;
-use reading::order::larger;
+use crate::entry::Entry;
+use crate::item::{Stored, is_listed, item_tests, listing_of};
+use crate::table::{Table, table_end};
+use reading::check::{Failure, Reason, Requirement, Rule, Test};
+use reading::refusal::Refusal;
 use reading::verdict;
-use reading::verdict::verdict_of;
+use reading::verdict::Refused;
 
-// The requirement that is no comparison with a number: an id that no earlier entry has.
-const NEW_ID: u8 = 1;
-
-// What judging finds: the file is whole, with its extent, the number of entries that are not judged and how many bytes lie after the extent; or the
-// refusal and its entry.
+// The file is whole: its extent, the number of entries that are not judged, and how many bytes lie after the extent. The other formats' has no such
+// number.
 #[derive(Clone, Copy)]
-pub enum Verdict {
-    Whole {
-        extent: usize,
-        unjudged: usize,
-        tail: usize,
-    },
-    Refused {
-        number: u8,
-        entry: usize,
-    },
+pub struct Whole {
+    pub extent: usize,
+    pub unjudged: usize,
+    pub tail: usize,
 }
 
 // One of the first i entries has this id.
-fn is_earlier(h: &[u8], id: u16, i: usize) -> bool
-    requires { table_end i ≤ length h.now }
-    ensures { result ≡ is_earlier h.now id i }
+fn is_earlier(t: Table, id: u16, i: usize) -> bool
+    requires { i ≤ t.count }
+    ensures { result ≡ is_earlier t.entry.up_to.now id i }
 {
-    first_id(h, id, 0, i) < i
+    t.first_id(id, 0, i).is_some()
 }
 
 // Judging entry d, which is entry i and has an id that is listed, its data stored so.
-fn judge_listed(s: &[u8], h: &[u8], n: usize, i: usize, v: Stored, d: Entry) -> Ended
-    requires { (table_end n ≤ length h.now) × (i + 1 ≤ n) × (d.place < 0x8000000000000000) }
-    ensures { outcome_of_ended result ≡ run (judge_as (Listed v) h.now n i d) s.now }
+fn judge_listed(s: &[u8], t: Table, i: usize, v: Stored, d: Entry) -> Result<usize, Failure>
+    requires { i < t.count }
+    ensures { outcome_of result ≡ run (judge_as (Some v) t.entry.up_to.now t.entry.count i d) s.now }
 {
-    if is_earlier(h, d.id, i) {
-        return Ended::Failed(Test {
-            field: id_field(d),
-            rule: Rule::Other(NEW_ID, false),
-            number: 8,
-        });
+    if is_earlier(t, d.id, i) {
+        return Err(Failure::Failed(Test {
+            field: d.id_field(),
+            rule: Rule::Other(Requirement::NewId, false),
+            refusal: Refusal::StandsTwice,
+        }));
     }
-    match item_tests(s, h, n, v, d) {
-        ItemRead::Failed(t) => Ended::Failed(t),
-        ItemRead::Short(p, m) => Ended::Short(p, m),
-        ItemRead::At(q) => Ended::At(q.start + q.size),
-    }
+    let q = item_tests(s, t, v, d)?;
+    Ok(q.start + q.size)
 }
 
-fn judge_entry(s: &[u8], h: &[u8], n: usize, i: usize) -> Ended
-    requires { (table_end n ≤ length h.now) × (i + 1 ≤ n) }
-    ensures { outcome_of_ended result ≡ run (judge_entry h.now n i) s.now }
+fn judge_entry(s: &[u8], t: Table, i: usize) -> Result<usize, Failure>
+    requires { i < t.count }
+    ensures { outcome_of result ≡ run (judge_entry t.entry.up_to.now t.entry.count i) s.now }
 {
-    let d = entry_at(h, i);
+    let d = t.entry_at(i);
     match listing_of(d.id) {
-        Listing::Listed(v) => judge_listed(s, h, n, i, v, d),
-        Listing::Unlisted => Ended::At(0),
+        Some(v) => judge_listed(s, t, i, v, d),
+        None => Ok(0),
     }
 }
 
 // Why an entry is refused, or the extent.
-fn explain_entries(s: &[u8], h: &[u8], n: usize) -> Explanation
-    requires { table_end n ≤ length h.now }
-    ensures { result ≡ explanation_of (run (in_order (judge_entry h.now n) n 0 (table_end n)) s.now) }
+fn judge_entries(s: &[u8], t: Table) -> Result<usize, Reason>
+    ensures { outcome_of_judged result ≡ run
+        (in_order (judge_entry t.entry.up_to.now t.entry.count) t.entry.count 0 (table_end t.entry.count))
+        s.now }
 {
-    let mut x = table_end(n);
-    let mut i = 0;
-    while i < n {
-        match judge_entry(s, h, n, i) {
-            Ended::Failed(test) => {
-                return Explanation::Failed { test, entry: i + 1 };
-            }
-            Ended::Short(start, least) => {
-                return Explanation::Short {
-                    start,
-                    least,
-                    entry: i + 1,
-                };
-            }
-            Ended::At(y) => {
-                x = larger(x, y);
-                i += 1;
-            }
+    let mut x = table_end(t.count);
+    for i in 0..t.count {
+        // A match: the same by `map_err` and `?` takes a loop twice the time, as measured for SFF's reads.
+        match judge_entry(s, t, i) {
+            Ok(y) => x = x.max(y),
+            Err(f) => return Err(f.at(i + 1)),
         }
     }
-    Explanation::Whole(x)
+    Ok(x)
 }
 
-// 1 for an entry that is not judged, else 0.
-fn unjudged_entry(h: &[u8], i: usize) -> usize
-    requires { table_end (i + 1) ≤ length h.now }
-    ensures { (result ≡ pick (is_listed (listing_of (le 2 h.now (place_of_entry i)))) 0 1) × (result ≤ 1) }
-{
-    let listed = is_listed(le16(h, entry_place(i)));
-    if listed {
-        return 0;
-    }
-    1
-}
-
-// The number of the n entries that are not judged.
-fn unjudged_among(h: &[u8], n: usize) -> usize
-    requires { table_end n ≤ length h.now }
-    ensures { result ≡ unjudged_among h.now n 0 }
+// The number of entries that are not judged.
+fn unjudged_among(t: Table) -> usize
+    ensures { result ≡ unjudged_among t.entry.up_to.now t.entry.count 0 }
 {
     let mut count = 0;
-    let mut i = 0;
-    while i < n {
-        count += unjudged_entry(h, i);
-        i += 1;
+    for i in 0..t.count {
+        if !is_listed(t.entry_at(i).id) {
+            count += 1;
+        }
     }
     count
 }
 
-fn judge_table(s: &[u8], h: &[u8], n: usize) -> Verdict
-    requires { table_end n ≤ length h.now }
-    ensures { answer_of_verdict result ≡ verdict_of (judge_table h.now n) extent_of s.now }
+fn judge_table(s: &[u8], t: Table) -> Result<Whole, Refused>
+    ensures { answer_of_verdict result ≡ verdict_of (judge_table t.entry.up_to.now t.entry.count) extent_of s.now }
 {
-    match verdict_of(explain_entries(s, h, n), s.len()) {
-        verdict::Verdict::Whole { extent, tail } => Verdict::Whole {
-            extent,
-            unjudged: unjudged_among(h, n),
-            tail,
-        },
-        verdict::Verdict::Refused { number, entry } => Verdict::Refused { number, entry },
-    }
+    let extent = judge_entries(s, t)?;
+    let whole = verdict::Whole::new(extent, s.len());
+    Ok(Whole {
+        extent,
+        unjudged: unjudged_among(t),
+        tail: whole.tail,
+    })
 }
 
 // Judges the file: whether it is whole, with its extent, its unjudged entries and its tail, or the refusal and its entry.
-pub fn judge(s: &[u8]) -> Verdict
+pub fn judge(s: &[u8]) -> Result<Whole, Refused>
     ensures { answer_of_verdict result ≡ verdict_of judging extent_of s.now }
 {
-    match read_table(s) {
-        Counted::Failed(t) => Verdict::Refused {
-            number: t.number,
-            entry: 0,
-        },
-        Counted::Short(_, _) => Verdict::Refused {
-            number: 1,
-            entry: 0,
-        },
-        Counted::Count(count) => {
-            let n = count as usize;
-            let end = table_end(n);
-            judge_table(s, &s[..end], n)
-        }
-    }
+    let t = Table::read(s).map_err(|f| f.at(0))?;
+    judge_table(s, t)
 }

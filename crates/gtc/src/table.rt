@@ -1,13 +1,13 @@
 // The header and the table of contents.
-ghost use Rattle.std.specs.Prelude.{◌≡◌, List, ℕ, ◌≤◌};
+ghost use Rattle.std.specs.Prelude.{◌≡◌, List, ℕ, ◌≤◌, length, OnOk};
 ghost use Rattle.reading.specs.Number.{le};
 ghost use Rattle.reading.specs.Check.{run};
 ghost use Rattle.reading.specs.Answers.{outcome_of_tested};
-ghost use Rattle.gtc.specs.Table.{mark_field, version_field, entry_count_field, mark_check, count_check, place_of_entry, table_end, entry_count};
-ghost use Rattle.gtc.specs.Answers.{outcome_of_counted};
+ghost use Rattle.gtc.specs.Table.{mark_field, version_field, entry_count_field, mark_check, count_check, most_entries, place_of_entry, table_end, table};
 
-use reading::check::{Field, Rule, Test, Tested, failed, signed_field, unsigned_field};
+use reading::check::{Failure, Field, Rule, Test, failed, signed_field, unsigned_field};
 use reading::number::{byte, le16, le32};
+use reading::refusal::Refusal;
 
 // The header: the mark, the version, the number of entries.
 const HEADER_SIZE: usize = 8;
@@ -20,17 +20,19 @@ const GTC_VERSION: u8 = 5;
 const MOST_ENTRIES: u32 = 999;
 
 // An entry is a u16 id and an i32 offset.
-const ENTRY_SIZE: usize = 6;
+pub(crate) const ENTRY_SIZE: usize = 6;
 
 // A signed 32-bit number from here on is negative.
 pub(crate) const NEGATIVE: u32 = 0x8000_0000;
 
-// A count; or the first test that fails, or the bytes that are missing, by their start and end.
+// A table of contents: its number of entries, and the file's bytes up to its end.
+// That an index is below the count stays in contracts, as with any list's. Where an item's data are read too, the file's bytes go beside it, as (s, t): the table knows only its own part of them.
 #[derive(Clone, Copy)]
-pub(crate) enum Counted {
-    Count(u32),
-    Failed(Test),
-    Short(usize, usize),
+pub(crate) struct Table<'a> {
+    pub count: usize,
+    pub up_to: &'a [u8],
+    ghost few: { count ≤ most_entries },
+    ghost whole: { table_end count ≤ length up_to.now },
 }
 
 // Where entry i, counted from 0, stands.
@@ -67,32 +69,47 @@ fn entry_count_field(count: u32) -> Field
     signed_field(4, 4, count as u64)
 }
 
-fn mark_tests(mark: u32, version: u8) -> Tested
+#[tactic(auto, using(reading::proofs::Tests::tests), unfolding(crate::specs::Table::mark_check, reading::specs::Check::run))]
+fn mark_tests(mark: u32, version: u8) -> Result<(), Test>
     ensures { (l : List ℕ) → outcome_of_tested result ≡ run (mark_check mark version) l }
 {
     if mark != GTC_MARK {
-        return failed(mark_field(mark), Rule::Exactly(GTC_MARK as u64), 2);
+        return failed(
+            mark_field(mark),
+            Rule::Exactly(GTC_MARK as u64),
+            Refusal::OtherMark,
+        );
     }
     if version != GTC_VERSION {
-        return failed(version_field(version), Rule::Exactly(GTC_VERSION as u64), 3);
+        return failed(
+            version_field(version),
+            Rule::Exactly(GTC_VERSION as u64),
+            Refusal::OtherVersion,
+        );
     }
-    Tested::Passed
+    Ok(())
 }
 
-fn count_tests(count: u32) -> Tested
-    ensures { (l : List ℕ) → outcome_of_tested result ≡ run (count_check count) l }
+#[tactic(auto, using(reading::proofs::Tests::tests), unfolding(crate::specs::Table::count_check, reading::specs::Check::run))]
+fn count_tests(count: u32) -> Result<(), Test>
+    ensures few { OnOk result (count ≤ most_entries) }
+    ensures result_value { (l : List ℕ) → outcome_of_tested result ≡ run (count_check count) l }
 {
     if NEGATIVE <= count {
-        return failed(entry_count_field(count), Rule::NotNegative, 4);
+        return failed(
+            entry_count_field(count),
+            Rule::NotNegative,
+            Refusal::BadHeader,
+        );
     }
     if MOST_ENTRIES < count {
         return failed(
             entry_count_field(count),
             Rule::AtMost(MOST_ENTRIES as u64),
-            5,
+            Refusal::TooManyEntries,
         );
     }
-    Tested::Passed
+    Ok(())
 }
 
 // The first three bytes, lowest first.
@@ -102,26 +119,35 @@ fn mark_of(h: &[u8]) -> u32
     le16(h, 0) as u32 + 65536 * byte(h, 2) as u32
 }
 
-// The number of entries.
-pub(crate) fn read_table(s: &[u8]) -> Counted
-    ensures { outcome_of_counted result ≡ run entry_count s.now }
-{
-    if s.len() < HEADER_SIZE {
-        return Counted::Short(0, HEADER_SIZE);
+impl<'a> Table<'a> {
+    ghost use Rattle.gtc.specs.Answers.{outcome_of_table};
+
+    // The table of the file.
+    pub(crate) fn read(s: &'a [u8]) -> Result<Table<'a>, Failure>
+        ensures { outcome_of_table result ≡ run table s.now }
+    {
+        if s.len() < HEADER_SIZE {
+            return Err(Failure::Short {
+                start: 0,
+                end: HEADER_SIZE,
+            });
+        }
+        let h = &s[..HEADER_SIZE];
+        let mark = mark_of(h);
+        let version = byte(h, 3);
+        let count = le32(h, 4);
+        mark_tests(mark, version)?;
+        count_tests(count)?;
+        let end = table_end(count as usize);
+        if s.len() < end {
+            return Err(Failure::Short {
+                start: HEADER_SIZE,
+                end,
+            });
+        }
+        Ok(Table {
+            count: count as usize,
+            up_to: &s[..end],
+        })
     }
-    let h = &s[..HEADER_SIZE];
-    let mark = mark_of(h);
-    let version = byte(h, 3);
-    let count = le32(h, 4);
-    if let Tested::Failed(t) = mark_tests(mark, version) {
-        return Counted::Failed(t);
-    }
-    if let Tested::Failed(t) = count_tests(count) {
-        return Counted::Failed(t);
-    }
-    let end = table_end(count as usize);
-    if s.len() < end {
-        return Counted::Short(HEADER_SIZE, end);
-    }
-    Counted::Count(count)
 }

@@ -3,5 +3,4 @@ pub mod Snp
 pub mod Snps
 pub mod Transformation
 pub mod Normalise
-pub mod Answers
 pub mod Private

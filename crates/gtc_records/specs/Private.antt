@@ -2,7 +2,10 @@
 use Rattle.std.specs.Prelude.{ℕ, ◌*◌, ◌≤◌, ◌≡◌, List, length}
 use Rattle.gtc.specs.Item.{item_end}
 use Rattle.gtc_records.specs.declared.snp.SnpArrays.{SnpArrays}
-use Rattle.gtc_records.specs.Snp.{SnpBytes}
+use Rattle.reading.specs.Part.{bytes_at}
+use Rattle.reading.specs.Item.{data_span}
+use Rattle.gtc_records.specs.declared.snp.SnpElements.{SnpElements}
+use Rattle.gtc_records.specs.Snp.{SnpBytes, snp_bytes_of}
 
 -- the five arrays are there
 pub record ArraysPresent (s : List ℕ) (arrays : SnpArrays) : Type 0 where
@@ -19,6 +22,20 @@ pub record ArraysSized (arrays : SnpArrays) : Type 0 where
   pub scores : arrays.scores.size ≡ 4 * arrays.genotypes.count
   pub x : arrays.x.size ≡ 2 * arrays.genotypes.count
   pub y : arrays.y.size ≡ 2 * arrays.genotypes.count
+
+-- the elements of the five arrays in s
+abbrev pub bytes_in : List ℕ → SnpArrays → SnpBytes
+bytes_in s arrays =
+    snp_bytes_of
+    (bytes_at s (data_span arrays.genotypes))
+    (bytes_at s (data_span arrays.base_calls))
+    (bytes_at s (data_span arrays.scores))
+    (bytes_at s (data_span arrays.x))
+    (bytes_at s (data_span arrays.y))
+
+-- the bytes of the elements that a struct of slices lends
+abbrev pub elements_in : SnpElements → SnpBytes
+elements_in lent = snp_bytes_of lent.genotypes.now lent.base_calls.now lent.scores.now lent.x.now lent.y.now
 
 -- the elements of the first n SNPs are there
 pub record ElementsPresent (bytes : SnpBytes) (n : ℕ) : Type 0 where

@@ -5,10 +5,11 @@ use Rattle.std.specs.Float.Ieee.{of_bits}
 use Rattle.reading.specs.Choice.{is_number_of}
 use Rattle.reading.specs.Number.{le, signed}
 use Rattle.reading.specs.Check.{Check, done, need, provided, ◌>>=◌, ◌>>◌}
-use Rattle.reading.specs.Part.{Span}
+use Rattle.reading.specs.declared.part.Span.{Span}
 use Rattle.reading.specs.declared.item.ItemData.{ItemData}
 use Rattle.gtc.specs.Item.{normalization_transformations_id, item_end}
 use Rattle.gtc_records.specs.declared.transformation.Transformation.{Transformation}
+use Rattle.gtc_records.specs.declared.transformation.Transformed.{Transformed}
 use Rattle.gtc.specs.Lookup.{looking_up}
 
 -- a transformation is a version and twelve floats
@@ -36,11 +37,6 @@ transformation_at bytes place =
       reserved_5 = float_at bytes (place + 44);
       reserved_6 = float_at bytes (place + 48);
     }
-
--- a transformation, and where it starts
-pub record Transformed : Type 0 where
-  pub start : ℕ
-  pub value : Transformation
 
 -- where number k, from one, of the array starts
 abbrev pub transformation_place : ItemData → ℕ → ℕ

@@ -1,20 +1,20 @@
 // The record of one SNP.
 ghost use Rattle.std.specs.Prelude.{◌≡◌, List, ℕ, ◌+◌, ◌≤◌, length};
-ghost use Rattle.reading.specs.Number.{le};
 ghost use Rattle.reading.specs.Check.{answer};
+ghost use Rattle.reading.specs.Answers.{answer_of};
 ghost use Rattle.reading.specs.Part.{bytes_at};
 ghost use Rattle.reading.specs.Item.{data_span};
 ghost use Rattle.gtc.specs.Item.{item_end};
-ghost use Rattle.gtc_records.specs.Snp.{call_arrays, intensity_arrays, snp_arrays, snp_bytes_of, is_base_call, snp_at, snp_of, snp_reading};
-ghost use Rattle.gtc_records.specs.Answers.{answer_of_calls, answer_of_intensities, answer_of_arrays_found, answer_of_snp_read};
-ghost use Rattle.gtc_records.specs.Private.{ArraysPresent, ArraysSized, ElementsPresent};
+ghost use Rattle.gtc_records.specs.Snp.{snp_arrays, is_base_call, snp_of, snp_reading};
+ghost use Rattle.gtc_records.specs.Private.{ArraysPresent, ArraysSized};
 
-use crate::genotype::{Genotype, LAST_CODE, meaning_of};
+use crate::genotype::{Genotype, genotype_of};
 use gtc::item::{BASE_CALLS_ID, GENOTYPE_SCORES_ID, GENOTYPES_ID, RAW_X_ID, RAW_Y_ID};
 use gtc::lookup::lookup;
 use reading::float::single;
-use reading::item::{Found, ItemData};
-use reading::number::{byte, le16, le32};
+use reading::item::ItemData;
+use reading::number::{le16, le32};
+use reading::refusal::Refusal;
 
 // A SNP's record: the genotype's code and meaning, the two letters of the base call, the score with its bits, and the intensities.
 #[derive(Clone, Copy)]
@@ -29,28 +29,8 @@ pub struct Snp {
     pub y: u16,
 }
 
-// A SNP's record, or the refusal.
-#[derive(Clone, Copy)]
-pub enum SnpRead {
-    At(Snp),
-    Refused(u8),
-}
-
-// The arrays of genotypes, base calls and scores, or the refusal.
-#[derive(Clone, Copy)]
-pub(crate) enum Calls {
-    At(ItemData, ItemData, ItemData),
-    Refused(u8),
-}
-
-// The arrays of X and Y intensities, or the refusal.
-#[derive(Clone, Copy)]
-pub(crate) enum Intensities {
-    At(ItemData, ItemData),
-    Refused(u8),
-}
-
-// The five arrays with one element for each SNP.
+// The five arrays with one element for each SNP. That they are there is a fact about them and the file, and the tree of checks makes this struct of
+// them alone, so it stands in the contracts and not in the struct.
 #[derive(Clone, Copy)]
 pub(crate) struct SnpArrays {
     pub genotypes: ItemData,
@@ -60,165 +40,112 @@ pub(crate) struct SnpArrays {
     pub y: ItemData,
 }
 
-// The five arrays, or the refusal.
+// The elements of the five arrays.
 #[derive(Clone, Copy)]
-pub(crate) enum ArraysFound {
-    At(SnpArrays),
-    Refused(u8),
-}
-
-fn call_arrays(s: &[u8]) -> Calls
-    ensures { answer_of_calls result ≡ answer call_arrays s.now }
-{
-    match lookup(s, GENOTYPES_ID) {
-        Found::Refused(n) => Calls::Refused(n),
-        Found::Data(g) => match lookup(s, BASE_CALLS_ID) {
-            Found::Refused(n) => Calls::Refused(n),
-            Found::Data(b) => match lookup(s, GENOTYPE_SCORES_ID) {
-                Found::Refused(n) => Calls::Refused(n),
-                Found::Data(f) => Calls::At(g, b, f),
-            },
-        },
-    }
-}
-
-fn intensity_arrays(s: &[u8]) -> Intensities
-    ensures { answer_of_intensities result ≡ answer intensity_arrays s.now }
-{
-    match lookup(s, RAW_X_ID) {
-        Found::Refused(n) => Intensities::Refused(n),
-        Found::Data(x) => match lookup(s, RAW_Y_ID) {
-            Found::Refused(n) => Intensities::Refused(n),
-            Found::Data(y) => Intensities::At(x, y),
-        },
-    }
+pub(crate) struct SnpElements<'a> {
+    pub genotypes: &'a [u8],
+    pub base_calls: &'a [u8],
+    pub scores: &'a [u8],
+    pub x: &'a [u8],
+    pub y: &'a [u8],
 }
 
 // The five arrays, looked up in the order genotype, base call, score, X, Y.
-pub(crate) fn snp_arrays(s: &[u8]) -> ArraysFound
-    ensures { answer_of_arrays_found result ≡ answer snp_arrays s.now }
+pub(crate) fn snp_arrays(s: &[u8]) -> Result<SnpArrays, Refusal>
+    ensures { answer_of result ≡ answer snp_arrays s.now }
 {
-    match call_arrays(s) {
-        Calls::Refused(n) => ArraysFound::Refused(n),
-        Calls::At(genotypes, base_calls, scores) => match intensity_arrays(s) {
-            Intensities::Refused(n) => ArraysFound::Refused(n),
-            Intensities::At(x, y) => ArraysFound::At(SnpArrays {
-                genotypes,
-                base_calls,
-                scores,
-                x,
-                y,
-            }),
-        },
-    }
+    let genotypes = lookup(s, GENOTYPES_ID)?;
+    let base_calls = lookup(s, BASE_CALLS_ID)?;
+    let scores = lookup(s, GENOTYPE_SCORES_ID)?;
+    let x = lookup(s, RAW_X_ID)?;
+    let y = lookup(s, RAW_Y_ID)?;
+    Ok(SnpArrays {
+        genotypes,
+        base_calls,
+        scores,
+        x,
+        y,
+    })
 }
 
 // A letter of a base call: A, C, G, T or -.
+#[tactic(auto, using(std::proofs::lemmas::Bool::Decides::nat_tests), unfolding(crate::specs::Snp::is_base_call))]
 fn is_base_call(v: u8) -> bool
     ensures { result ≡ is_base_call v }
 {
-    match v {
-        0x41 => true,
-        0x43 => true,
-        0x47 => true,
-        0x54 => true,
-        0x2d => true,
-        _ => false,
-    }
+    matches!(v, b'A' | b'C' | b'G' | b'T' | b'-')
 }
 
 // An array's elements.
-pub(crate) fn elements(s: &[u8], q: ItemData) -> &[u8]
+fn elements(s: &[u8], q: ItemData) -> &[u8]
     requires { item_end q ≤ length s.now }
     ensures { result.now ≡ bytes_at s.now (data_span q) }
 {
-    let end = q.start + q.size;
-    let start = q.start;
-    &s[start..end]
+    &s[q.start..q.start + q.size]
 }
 
-// The numbers at a place that is there. A part of a fixed length is read with no test of its length, so a loop over these is fast.
-fn byte_at(l: &[u8], p: usize) -> u8
-    requires { p + 1 ≤ length l.now }
-    ensures { result ≡ le 1 l.now p }
-{
-    let end = p + 1;
-    byte(&l[p..end], 0)
-}
+impl SnpArrays {
+    ghost use Rattle.gtc_records.specs.Private.{elements_in, bytes_in};
 
-fn word_at(l: &[u8], p: usize) -> u16
-    requires { p + 2 ≤ length l.now }
-    ensures { result ≡ le 2 l.now p }
-{
-    let end = p + 2;
-    le16(&l[p..end], 0)
-}
-
-fn long_at(l: &[u8], p: usize) -> u32
-    requires { p + 4 ≤ length l.now }
-    ensures { result ≡ le 4 l.now p }
-{
-    let end = p + 4;
-    le32(&l[p..end], 0)
-}
-
-// The record of SNP j, counted from 0, in the elements of the five arrays.
-pub(crate) fn snp_at(g: &[u8], b: &[u8], f: &[u8], x: &[u8], y: &[u8], j: usize) -> SnpRead
-    requires { ElementsPresent (snp_bytes_of g.now b.now f.now x.now y.now) (j + 1) }
-    ensures { (l : List ℕ) → answer_of_snp_read result ≡ answer
-        (snp_at (snp_bytes_of g.now b.now f.now x.now y.now) j) l }
-{
-    let code = byte_at(g, j);
-    if LAST_CODE < code {
-        return SnpRead::Refused(11);
-    }
-    let call_1 = byte_at(b, 2 * j);
-    let call_2 = byte_at(b, 2 * j + 1);
-    let first = is_base_call(call_1);
-    let second = is_base_call(call_2);
-    if first {
-        if second {
-            let score_bits = long_at(f, 4 * j);
-            return SnpRead::At(Snp {
-                code,
-                genotype: meaning_of(code),
-                call_1,
-                call_2,
-                score: single(score_bits),
-                score_bits,
-                x: word_at(x, 2 * j),
-                y: word_at(y, 2 * j),
-            });
+    // The elements of the arrays, which are there.
+    pub(crate) fn elements(self, s: &[u8]) -> SnpElements<'_>
+        requires { ArraysPresent s.now self }
+        ensures { elements_in result ≡ bytes_in s.now self }
+    {
+        SnpElements {
+            genotypes: elements(s, self.genotypes),
+            base_calls: elements(s, self.base_calls),
+            scores: elements(s, self.scores),
+            x: elements(s, self.x),
+            y: elements(s, self.y),
         }
     }
-    SnpRead::Refused(11)
 }
 
-fn snp_of(s: &[u8], a: SnpArrays, index: u64) -> SnpRead
+impl SnpElements<'_> {
+    ghost use Rattle.gtc_records.specs.Snp.{snp_at};
+    ghost use Rattle.gtc_records.specs.Private.{elements_in, ElementsPresent};
+
+    // The record of SNP j, counted from 0. A part of a fixed length is read with no test of its length, so a loop over this is fast.
+    pub(crate) fn snp(self, j: usize) -> Result<Snp, Refusal>
+        requires { ElementsPresent (elements_in self) (j + 1) }
+        ensures { (l : List ℕ) → answer_of result ≡ answer (snp_at (elements_in self.entry) j) l }
+    {
+        let code = self.genotypes[j];
+        let genotype = genotype_of(code)?;
+        let call_1 = self.base_calls[2 * j];
+        let call_2 = self.base_calls[2 * j + 1];
+        if !is_base_call(call_1) || !is_base_call(call_2) {
+            return Err(Refusal::Forbidden);
+        }
+        let score_bits = le32(&self.scores[4 * j..4 * j + 4], 0);
+        Ok(Snp {
+            code,
+            genotype,
+            call_1,
+            call_2,
+            score: single(score_bits),
+            score_bits,
+            x: le16(&self.x[2 * j..2 * j + 2], 0),
+            y: le16(&self.y[2 * j..2 * j + 2], 0),
+        })
+    }
+}
+
+fn snp_of(s: &[u8], a: SnpArrays, index: u64) -> Result<Snp, Refusal>
     requires { ArraysPresent s.now a × ArraysSized a }
-    ensures { answer_of_snp_read result ≡ answer (snp_of a index) s.now }
+    ensures { answer_of result ≡ answer (snp_of a index) s.now }
 {
-    let n = a.genotypes.count;
-    if index < 1 {
-        return SnpRead::Refused(12);
+    if index < 1 || (a.genotypes.count as u64) < index {
+        return Err(Refusal::NoSuchElement);
     }
-    if (n as u64) < index {
-        return SnpRead::Refused(12);
-    }
-    let g = elements(s, a.genotypes);
-    let b = elements(s, a.base_calls);
-    let f = elements(s, a.scores);
-    let x = elements(s, a.x);
-    let y = elements(s, a.y);
-    snp_at(g, b, f, x, y, (index - 1) as usize)
+    a.elements(s).snp((index - 1) as usize)
 }
 
 // The record of SNP number `index`, from one.
-pub fn read_snp(s: &[u8], index: u64) -> SnpRead
-    ensures { answer_of_snp_read result ≡ answer (snp_reading index) s.now }
+pub fn read_snp(s: &[u8], index: u64) -> Result<Snp, Refusal>
+    ensures { answer_of result ≡ answer (snp_reading index) s.now }
 {
-    match snp_arrays(s) {
-        ArraysFound::Refused(n) => SnpRead::Refused(n),
-        ArraysFound::At(a) => snp_of(s, a, index),
-    }
+    let a = snp_arrays(s)?;
+    snp_of(s, a, index)
 }

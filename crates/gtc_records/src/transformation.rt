@@ -1,25 +1,26 @@
 // The normalization transformations.
 ghost use Rattle.std.specs.Prelude.{◌≡◌, ◌+◌, ◌≤◌, ◌<◌, length};
 ghost use Rattle.reading.specs.Check.{answer, map_answer};
+ghost use Rattle.reading.specs.Answers.{answer_of};
 ghost use Rattle.reading.specs.Part.{shown, handed_back};
 ghost use Rattle.gtc.specs.Item.{item_end};
 ghost use Rattle.gtc_records.specs.Transformation.{transformation_size, float_at, transformation_at, transformation_of};
 ghost use Rattle.gtc_records.specs.Transformation.{transformation_reading, transformation_span};
-ghost use Rattle.gtc_records.specs.Answers.{answer_of_transformation_read};
 
 use gtc::item::NORMALIZATION_TRANSFORMATIONS_ID;
 use gtc::lookup::lookup;
 use reading::float::single;
-use reading::item::{Found, ItemData};
-use reading::number::{le32, signed32};
+use reading::item::ItemData;
+use reading::number::le32;
 use reading::part::part;
+use reading::refusal::Refusal;
 
 // A transformation is a version and twelve floats.
 const TRANSFORMATION_SIZE: usize = 52;
 
 // A transformation, as the 52 bytes of the file hold it.
 #[repr(C)]
-#[derive(Clone, Copy)]
+#[derive(Clone, Copy, Default)]
 pub struct Transformation {
     pub version: i32,
     pub offset_x: f32,
@@ -36,11 +37,11 @@ pub struct Transformation {
     pub reserved_6: f32,
 }
 
-// A transformation with where it starts, or the refusal.
+// A transformation, and where it starts.
 #[derive(Clone, Copy)]
-pub enum TransformationRead {
-    At { start: usize, value: Transformation },
-    Refused(u8),
+pub struct Transformed {
+    pub start: usize,
+    pub value: Transformation,
 }
 
 fn float_at(l: &[u8], p: usize) -> f32
@@ -55,7 +56,7 @@ fn transformation_at(l: &[u8], p: usize) -> Transformation
     ensures { result ≡ transformation_at l.now p }
 {
     Transformation {
-        version: signed32(le32(l, p)),
+        version: le32(l, p).cast_signed(),
         offset_x: float_at(l, p + 4),
         offset_y: float_at(l, p + 8),
         scale_x: float_at(l, p + 12),
@@ -72,32 +73,27 @@ fn transformation_at(l: &[u8], p: usize) -> Transformation
 }
 
 // Number k of the array.
-fn transformation_of(s: &[u8], q: ItemData, k: u64) -> TransformationRead
+fn transformation_of(s: &[u8], q: ItemData, k: u64) -> Result<Transformed, Refusal>
     requires { item_end q ≤ length s.now }
-    ensures { answer_of_transformation_read result ≡ answer (transformation_of q k) s.now }
+    ensures { answer_of result ≡ answer (transformation_of q k) s.now }
 {
-    if k < 1 {
-        return TransformationRead::Refused(12);
-    }
-    if (q.count as u64) < k {
-        return TransformationRead::Refused(12);
+    if k < 1 || (q.count as u64) < k {
+        return Err(Refusal::NoSuchElement);
     }
     let end = q.start + q.size;
     let start = q.start + TRANSFORMATION_SIZE * (k - 1) as usize;
-    TransformationRead::At {
+    Ok(Transformed {
         start,
         value: transformation_at(&s[..end], start),
-    }
+    })
 }
 
 // Transformation number k, from one.
-pub fn read_transformation(s: &[u8], k: u64) -> TransformationRead
-    ensures { answer_of_transformation_read result ≡ answer (transformation_reading k) s.now }
+pub fn read_transformation(s: &[u8], k: u64) -> Result<Transformed, Refusal>
+    ensures { answer_of result ≡ answer (transformation_reading k) s.now }
 {
-    match lookup(s, NORMALIZATION_TRANSFORMATIONS_ID) {
-        Found::Refused(n) => TransformationRead::Refused(n),
-        Found::Data(q) => transformation_of(s, q, k),
-    }
+    let q = lookup(s, NORMALIZATION_TRANSFORMATIONS_ID)?;
+    transformation_of(s, q, k)
 }
 
 // The 52 bytes of a transformation, as a part of the caller's bytes; the empty part at their start where it is refused.
@@ -105,7 +101,7 @@ pub fn transformation_part(s: &[u8], k: u64) -> &[u8]
     ensures { shown result ≡ handed_back (shown s.entry) (map_answer transformation_span (answer (transformation_reading k) s.now)) }
 {
     match read_transformation(s, k) {
-        TransformationRead::Refused(_) => part(s, 0, 0),
-        TransformationRead::At { start, value: _ } => part(s, start, TRANSFORMATION_SIZE),
+        Ok(t) => part(s, t.start, TRANSFORMATION_SIZE),
+        Err(_) => part(s, 0, 0),
     }
 }

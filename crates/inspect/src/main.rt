@@ -8,15 +8,14 @@ mod line;
 mod sff_lines;
 
 use crate::input::{Input, input_of};
-use crate::line::put;
 use lent_input::read_full;
 use std::io;
 use std::io::Write;
 
 fn report<W: Write>(to: &mut W, s: &[u8]) -> io::Result<()> {
     match input_of(s) {
-        Input::TooLong => put(to, b"too long\n"),
-        Input::Unknown => put(to, b"unknown\n"),
+        Input::TooLong => writeln!(to, "too long"),
+        Input::Unknown => writeln!(to, "unknown"),
         Input::Abif => abif_lines::put_file(to, s),
         Input::Sff => sff_lines::put_file(to, s),
         Input::Gtc => gtc_lines::put_file(to, s),

@@ -1,12 +1,13 @@
-// What the programs read: an input, into a buffer that is lent.
+// What the programs share: reading an input into a buffer that is lent, and showing a part of it.
 #![tactic(auto)]
 
 ghost use Rattle.std.specs.Io.{ReadsAtMost};
 
 use std::io;
-use std::io::Read;
+use std::io::{Read, Write};
 
-// Reads until the buffer is full or the input ends, and tells how many bytes it put at the buffer's start.
+// Reads until the buffer is full or the input ends, and tells how many bytes it put at the buffer's start. The loop counts what each read gives, which is
+// no index.
 pub fn read_full<R: Read>(from: &mut R, buffer: &mut [u8]) -> io::Result<usize>
     ensures { ReadsAtMost result buffer.new }
 {
@@ -19,4 +20,11 @@ pub fn read_full<R: Read>(from: &mut R, buffer: &mut [u8]) -> io::Result<usize>
         done += n;
     }
     Ok(done)
+}
+
+// A part as its length and its bytes.
+pub fn put_part<W: Write>(to: &mut W, part: &[u8]) -> io::Result<()> {
+    write!(to, "{} ", part.len())?;
+    to.write_all(part)?;
+    to.write_all(b"\n")
 }

@@ -11,7 +11,8 @@ use borrow.Author.Tests.{leb-true, leb-false}
 use Rattle.reading.specs.Check.{Answer, ok, refused, map_answer, answer}
 use Rattle.reading.specs.Verdict.{with_tail, tail_of}
 use Rattle.reading.proofs.Needed.{reach}
-use Rattle.reading.specs.Part.{Part, cut_to, Span, handed_back}
+use Rattle.reading.specs.declared.part.Span.{Span}
+use Rattle.reading.specs.Part.{Part, cut_to, handed_back}
 use Rattle.reading.specs.Lent.{filled}
 use Rattle.reading.proofs.Cut.{Refused1, refused1, answer_same, cuts, cut_or_same}
 use Rattle.reading.proofs.Parts.{handed_kept}

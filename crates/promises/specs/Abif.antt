@@ -18,13 +18,13 @@ use Rattle.promises.specs.Format.{ReadingCall, plain, handing, filling, Format}
 -- The calls that an opened file has too. A tag is its name and its number, each by its 32 bits.
 pub data FileCall : Type 0 where
   -- abif::lookup::lookup, abif::lookup::data_part, jt_abif_lookup
-  -- abif_file::opened::lookup, abif_file::opened::data_part, abif_file::file::lookup, abif_file::file::data_part, jt_abif_lookup_opened
+  -- abif_file::file::lookup, abif_file::file::data_part, jt_abif_lookup_opened
   lookup : (name number : ℕ) → FileCall
   -- abif_elements::element::read_element, jt_abif_element
-  -- abif_file::opened::read_element, abif_file::file::read_element, jt_abif_element_opened
+  -- abif_file::file::read_element, jt_abif_element_opened
   element : (name number index : ℕ) → FileCall
   -- abif_elements::text::read_text, abif_elements::text::text_part, jt_abif_text
-  -- abif_file::opened::read_text, abif_file::opened::text_part, abif_file::file::read_text, abif_file::file::text_part, jt_abif_text_opened
+  -- abif_file::file::read_text, abif_file::file::text_part, jt_abif_text_opened
   text : (name number : ℕ) → FileCall
   -- abif_file::list::list, jt_abif_list, abif_file::file::list, jt_abif_list_opened
   -- the lent list of records goes in

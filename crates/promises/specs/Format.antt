@@ -1,7 +1,7 @@
 -- The reading calls of a format, as demands 1 and 3 speak of them.
 use Rattle.std.specs.Prelude.{ℕ, List, []}
 use Rattle.reading.specs.Check.{Check}
-use Rattle.reading.specs.Part.{Span}
+use Rattle.reading.specs.declared.part.Span.{Span}
 
 -- a call with all that it is given beside the file
 pub record ReadingCall : Type 1 where

@@ -1,21 +1,20 @@
 -- The search for an entry, and the checks of entries in order.
-use Prim.Native.Nat.{ℕ, zero, suc, ◌+◌, ◌-◌, ◌^◌, ◌≤◌, ◌<◌, max}
+use Prim.Native.Nat.{ℕ, zero, suc, ◌+◌, ◌-◌, ◌≤◌, ◌<◌, max}
 use mathlib.Core.Path.{◌≡◌, refl, ◌∙◌, ap}
 use mathlib.Core.List.{List}
 use mathlib.Core.Bool.{Bool, true, false}
 use native.Mathlib.Omega.{arith}
 use lib.Dec.{leb}
 use borrow.Author.Tests.{lt-ltb, le-ltb, eq-eqb, ne_eqb, ltb-true, leb-true, leb-false}
-use Rattle.reading.specs.declared.check.Test.{Test}
-use Rattle.reading.specs.declared.check.Explanation.TheVariants as Explanation
+use Rattle.reading.specs.declared.check.Failure.{Failure}
+use Rattle.reading.specs.declared.check.Failure.TheVariants.{Failed, Short}
+use Rattle.reading.specs.Answers.{outcome_of_failure}
 use Rattle.reading.specs.Choice.{pick}
-use Rattle.reading.specs.Check.{Check, passed, failed, short, failing, ok, run, answer, holds}
+use Rattle.reading.specs.Check.{Check, passed, failed, failing, ok, run, answer, holds}
 use Rattle.reading.proofs.Needed.{reach}
-use Rattle.reading.specs.Explain.{explanation_of}
 use Rattle.reading.specs.Entries.{first_with, one_with, in_order}
 use Rattle.reading.proofs.Steps.{run_bind, run_must, run_done, run_at, answer_bind, answer_done, answer_at, reach_must, reach_done, reach_at}
 use Rattle.reading.proofs.Passed.{bind_ok, must_ok, done_ok, at_ok}
-use Rattle.reading.proofs.Explained.{explained_short}
 use Rattle.reading.proofs.Reach.{reach_none}
 use Rattle.reading.proofs.Refused.{Refuses, refuses_done, refuses_must, refuses_bind, refuses_at}
 use Rattle.reading.proofs.Tests.{span}
@@ -115,19 +114,16 @@ larger_of x e r = omega arith
 module _ (t : ℕ → Check ℕ) (s : List ℕ) where
   -- the checks from entry i on, from what those of entry i find
   module _ (i x : ℕ) where
-    pub order_failed : (w : Test) (e : ℕ) → run (t i) s ≡ failed w e → (m : ℕ) → explanation_of (run (in_order t (suc m) i x) s) ≡ Explanation.Failed w (i + 1)
+    pub order_wrong : (f : Failure) → outcome_of_failure f 0 ≡ run (t i) s → (m : ℕ) → outcome_of_failure f (i + 1) ≡ run (in_order t (suc m) i x) s
     unfolding in_order
-    order_failed w e q m = simp (run_bind, run_at, q)
+    order_wrong (Failed w) q m = simp (run_bind, run_at, ← q)
+    order_wrong (Short a b) q m = simp (run_bind, run_at, ← q)
 
-    pub order_short : (a b e : ℕ) → run (t i) s ≡ short (record { start = a; end = b }) e → b < 2 ^ 64 → (m : ℕ) → explanation_of (run (in_order t (suc m) i x) s) ≡ Explanation.Short a b (i + 1)
+    pub order_next : (y z : ℕ) → passed y ≡ run (t i) s → z ≡ max x y → (m : ℕ) → run (in_order t (suc m) i x) s ≡ run (in_order t m (i + 1) z) s
     unfolding in_order
-    order_short a b e q l m = simp (run_bind, run_at, q) (explained_short a b (i + 1) l)
+    order_next y z q v m = simp (run_bind, run_at, ← q, v)
 
-    pub order_next : (y z : ℕ) → run (t i) s ≡ passed y → z ≡ max x y → (m : ℕ) → explanation_of (run (in_order t (suc m) i x) s) ≡ explanation_of (run (in_order t m (i + 1) z) s)
-    unfolding in_order
-    order_next y z q v m = simp (run_bind, run_at, q, v)
-
-    pub order_end : Explanation.Whole x ≡ explanation_of (run (in_order t 0 i x) s)
+    pub order_end : passed x ≡ run (in_order t 0 i x) s
     unfolding in_order
     order_end = simp run_done
 

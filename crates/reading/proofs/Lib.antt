@@ -2,7 +2,7 @@ pub mod Needed
 pub mod Cut
 pub mod Steps
 pub mod Passed
-pub mod Explained
+pub mod Results
 pub mod Tail
 pub mod Reach
 pub mod Refused

@@ -1,18 +1,25 @@
--- The verdict with its tail: from the explanation, and what judging's checks have answered from it.
+-- The verdict with its tail: from what judging's checks find, and what they have answered from it.
 use Prim.Native.Nat.{ℕ, ◌-◌}
 use mathlib.Core.Path.{◌≡◌, sym, ap}
 use mathlib.Core.List.{List}
 use lib.ListN.{length}
-use Rattle.reading.specs.declared.check.Explanation.{Explanation}
-use Rattle.reading.specs.Check.{Check, Answer, ok, refused, run}
-use Rattle.reading.specs.Explain.{explanation_of}
-use Rattle.reading.specs.Answers.{answer_of_explanation}
+use Rattle.reading.specs.declared.check.Failure.{Failure}
+use Rattle.reading.specs.declared.check.Failure.TheVariants.{Failed, Short}
+use Rattle.reading.specs.Check.{Check, passed, Answer, ok, refused, run}
+use Rattle.reading.specs.Refusal.{number}
+use Rattle.reading.specs.Answers.{refusal_of, outcome_of_failure}
 use Rattle.reading.specs.Verdict.{with_tail, verdict_of}
 use Rattle.reading.proofs.Passed.{not_ok, ok_inj}
-use Rattle.reading.proofs.Explained.{answer_explained}
+use Rattle.reading.proofs.Cut.{answer_plain}
 
-pub verdict_explained : (t : Check ℕ) (s : List ℕ) (r : Explanation) → r ≡ explanation_of (run t s) → with_tail (λ x. x) (length s) (answer_of_explanation r) ≡ verdict_of t (λ x. x) s
-verdict_explained t s r e = ap (with_tail (λ x. x) (length s)) (answer_explained t s r e)
+-- the verdict, from what judging's checks find
+module _ {A : Type 0} (t : Check A) (extent : A → ℕ) (s : List ℕ) where
+  pub verdict_refused : (f : Failure) (e : ℕ) → outcome_of_failure f e ≡ run t s → refused (number (refusal_of f)) e ≡ verdict_of t extent s
+  verdict_refused (Failed w) e q = simp (answer_plain, ← q)
+  verdict_refused (Short p m) e q = simp (answer_plain, ← q)
+
+  pub verdict_whole : (a : A) → passed a ≡ run t s → ok (a, length s - extent a) ≡ verdict_of t extent s
+  verdict_whole a q = simp (answer_plain, ← q)
 
 module _ {A : Type 0} (extent : A → ℕ) (n : ℕ) where
   pub tail_ok : (r : Answer A) (v : A) (t : ℕ) → with_tail extent n r ≡ ok (v, t) → (r ≡ ok v) × (t ≡ n - extent v)

@@ -1,49 +1,52 @@
--- What the enums of the code stand for: answers of document 01, and outcomes of its checks.
-use Rattle.std.specs.Prelude.{ℕ}
-use Rattle.reading.specs.declared.check.Explanation.{Explanation}
-use Rattle.reading.specs.declared.check.Explanation.TheVariants.{Whole, Failed, Short, Beyond}
-use Rattle.reading.specs.declared.check.Tested.{Tested}
-use Rattle.reading.specs.declared.check.Tested.TheVariants as tested
-use Rattle.reading.specs.declared.check.Ended.{Ended}
-use Rattle.reading.specs.declared.check.Ended.TheVariants as ended
-use Rattle.reading.specs.declared.verdict.Verdict.{Verdict}
-use Rattle.reading.specs.declared.verdict.Verdict.TheVariants as verdict
-use Rattle.reading.specs.declared.item.ItemData.{ItemData}
-use Rattle.reading.specs.declared.item.Found.{Found}
-use Rattle.reading.specs.declared.item.Found.TheVariants as found
-use Rattle.reading.specs.declared.bulk.Copied.{Copied}
-use Rattle.reading.specs.declared.bulk.Copied.TheVariants as copied
-use Rattle.reading.specs.Check.{Outcome, passed, failed, short, Answer, ok, refused}
+-- What the results of the code stand for: answers of document 01, and outcomes of its checks.
+use Rattle.std.specs.Prelude.{ℕ, Result, Ok, Err}
+use Rattle.reading.specs.declared.check.Test as code
+use Rattle.reading.specs.declared.check.Failure.{Failure}
+use Rattle.reading.specs.declared.check.Failure.TheVariants.{Failed, Short}
+use Rattle.reading.specs.declared.check.Reason.{Reason}
+use Rattle.reading.specs.declared.refusal.Refusal.{Refusal}
+use Rattle.reading.specs.declared.refusal.Refusal.TheVariants.{CutShort}
+use Rattle.reading.specs.declared.verdict.Whole.{Whole}
+use Rattle.reading.specs.declared.verdict.Refused.{Refused}
+use Rattle.reading.specs.Check.{Test, Outcome, passed, failed, short, Answer, ok, refused}
+use Rattle.reading.specs.Refusal.{number}
 
--- a group of tests
-abbrev pub outcome_of_tested : Tested → Outcome (Unit {0})
-outcome_of_tested tested.Passed = passed tt
-outcome_of_tested (tested.Failed w) = failed w 0
+-- a test, with its refusal's number
+abbrev pub test_of : code.Test → Test
+test_of t = record { field = t.field; rule = t.rule; number = number t.refusal }
 
--- checks that answer an end
-abbrev pub outcome_of_ended : Ended → Outcome ℕ
-outcome_of_ended (ended.At m) = passed m
-outcome_of_ended (ended.Failed w) = failed w 0
-outcome_of_ended (ended.Short p m) = short (record { start = p; end = m }) 0
+-- the refusal of what is wrong: bytes that are missing are refusal 1
+abbrev pub refusal_of : Failure → Refusal
+refusal_of (Failed t) = t.refusal
+refusal_of (Short p m) = CutShort
 
--- judging, explained
-abbrev pub answer_of_explanation : Explanation → Answer ℕ
-answer_of_explanation (Whole x) = ok x
-answer_of_explanation (Failed w e) = refused w.number e
-answer_of_explanation (Short p m e) = refused 1 e
-answer_of_explanation (Beyond p e) = refused 1 e
+module _ {A : Type 0} where
+  -- checks of which each is a test
+  abbrev pub outcome_of_tested : Result A code.Test → Outcome A
+  outcome_of_tested (Ok a) = passed a
+  outcome_of_tested (Err t) = failed (test_of t) 0
+
+  -- what is wrong, found at entry or read e
+  abbrev pub outcome_of_failure : Failure → ℕ → Outcome A
+  outcome_of_failure (Failed t) e = failed (test_of t) e
+  outcome_of_failure (Short p m) e = short (record { start = p; end = m }) e
+
+  -- checks that are reported at 0
+  abbrev pub outcome_of : Result A Failure → Outcome A
+  outcome_of (Ok a) = passed a
+  outcome_of (Err f) = outcome_of_failure f 0
+
+  -- checks that are reported at an entry or read
+  abbrev pub outcome_of_judged : Result A Reason → Outcome A
+  outcome_of_judged (Ok a) = passed a
+  outcome_of_judged (Err w) = outcome_of_failure w.failure w.entry
+
+  -- what a call answers
+  abbrev pub answer_of : Result A Refusal → Answer A
+  answer_of (Ok a) = ok a
+  answer_of (Err r) = refused (number r) 0
 
 -- judging: the extent and the tail
-abbrev pub answer_of_verdict : Verdict → Answer (ℕ × ℕ)
-answer_of_verdict (verdict.Whole x t) = ok (x, t)
-answer_of_verdict (verdict.Refused n e) = refused n e
-
--- lookup
-abbrev pub answer_of_found : Found → Answer ItemData
-answer_of_found (found.Data q) = ok q
-answer_of_found (found.Refused n) = refused n 0
-
--- a call that fills a lent list: how many items it has written
-abbrev pub answer_of_copied : Copied → Answer ℕ
-answer_of_copied (copied.Count n) = ok n
-answer_of_copied (copied.Refused n) = refused n 0
+abbrev pub answer_of_verdict : Result Whole Refused → Answer (ℕ × ℕ)
+answer_of_verdict (Ok w) = ok (w.extent, w.tail)
+answer_of_verdict (Err r) = refused (number r.refusal) r.entry

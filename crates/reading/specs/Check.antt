@@ -3,7 +3,7 @@ use Rattle.std.specs.Prelude.{ℕ, List, Bool, true, false, length, take, leb, e
 use Rattle.reading.specs.declared.check.Field.{Field}
 use Rattle.reading.specs.declared.check.Rule.{Rule}
 use Rattle.reading.specs.declared.check.Rule.TheVariants.{Exactly, EqualTo, NotNegative, AtLeast, AtMost, Between, Other}
-use Rattle.reading.specs.declared.check.Test.{Test}
+use Rattle.reading.specs.declared.check.Requirement.TheVariants.{OfTheCall}
 use Rattle.reading.specs.Choice.{pick}
 use Rattle.reading.specs.Number.{negative, signed}
 
@@ -30,6 +30,12 @@ holds (AtLeast n) field = pick (is_negative field) false (leb n field.value)
 holds (AtMost n) field = pick (is_negative field) true (leb field.value n)
 holds (Between m n) field = pick (is_negative field) false (pick (leb m field.value) (leb field.value n) false)
 holds (Other requirement met) field = met
+
+-- a test: the field obeys the rule, else the refusal of this number
+pub record Test : Type 0 where
+  pub field : Field
+  pub rule : Rule
+  pub number : ℕ
 
 -- a need: the bytes from start to end are present, else refusal 1
 pub record Need : Type 0 where
@@ -69,11 +75,11 @@ need start end = bytes (record { start = start; end = end }) 0 (λ up_to. done u
 
 -- one check of no field of the file: this holds, else the refusal of this number
 abbrev pub provided : Bool → ℕ → Check (Unit {0})
-provided met number = must (unsigned_field 0 0 0) (Other 0 met) number
+provided met number = must (unsigned_field 0 0 0) (Other OfTheCall met) number
 
 -- the test that fails where it does not hold
 abbrev pub failing : ℕ → Test
-failing number = record { field = unsigned_field 0 0 0; rule = Other 0 false; number = number }
+failing number = record { field = unsigned_field 0 0 0; rule = Other OfTheCall false; number = number }
 
 -- the checks of t, reported at entry or read e
 module _ {A : Type 0} (e : ℕ) where

@@ -3,9 +3,9 @@ pub mod Number
 pub mod Check
 pub mod Entries
 pub mod Verdict
-pub mod Explain
 pub mod Part
 pub mod Item
 pub mod Lent
 pub mod Bulk
 pub mod Answers
+pub mod Refusal

@@ -1,13 +1,9 @@
 -- A part of lent bytes, document 01's term for a stretch of them: where it starts (a block of memory and an offset in it), and its bytes.
 use Rattle.std.specs.Prelude.{ℕ, ◌+◌, List, length, take, drop, leb}
 use Rattle.std.specs.Borrow.{Bor}
+pub use Rattle.reading.specs.declared.part.Span.{Span}
 use Rattle.reading.specs.Choice.{pick}
 use Rattle.reading.specs.Check.{Answer, ok, refused}
-
--- where a part stands
-pub record Span : Type 0 where
-  pub start : ℕ
-  pub size : ℕ
 
 -- the bytes of s that stand there
 abbrev pub bytes_at : List ℕ → Span → List ℕ

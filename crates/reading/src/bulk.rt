@@ -1,27 +1,14 @@
 // What the bulk calls share, which write many items into a lent list of numbers.
-ghost use Rattle.std.specs.Prelude.{◌≡◌, [], ◌∷◌};
+ghost use Rattle.std.specs.Prelude.{◌≡◌};
 ghost use Rattle.reading.specs.Bulk.{placed};
 
-// How many items were written, or the refusal.
-#[derive(Clone, Copy)]
-pub enum Copied {
-    Count(u64),
-    Refused(u8),
-}
-
-// Four numbers from place p on, where there is room for them.
-pub fn put_four(out: &mut [u64], p: usize, a: u64, b: u64, c: u64, d: u64)
-    ensures { out.new ≡ placed out.old p (a ∷ b ∷ c ∷ d ∷ []) }
+// The numbers from place p on, where there is room for them. Bytes are written by `copy` of `writing`: the definitions of the two are two.
+pub fn put<const N: usize>(out: &mut [u64], p: usize, numbers: [u64; N])
+    ensures { out.new ≡ placed out.old p numbers.entry }
 {
-    let n = out.len();
-    if n < 4 {
+    if out.len() < N || out.len() - N < p {
         return;
     }
-    if n - 4 < p {
-        return;
-    }
-    out[p] = a;
-    out[p + 1] = b;
-    out[p + 2] = c;
-    out[p + 3] = d;
+    let end = p + N;
+    out[p..end].copy_from_slice(&numbers);
 }

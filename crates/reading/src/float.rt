@@ -1,4 +1,5 @@
-// Floats by their bits. The logic has one NaN, so only the bits tell two NaNs apart.
+// Floats by their bits. The logic has one NaN, so only the bits tell two NaNs apart. A function for each width: one over both would need a trait whose
+// members are the width's type, its bits' type, two constants and the library's call, which is no plainer.
 ghost use Rattle.std.specs.Prelude.{◌≡◌};
 ghost use Rattle.std.specs.Float.{binary32, binary64};
 ghost use Rattle.std.specs.Float.Ieee.{of_bits};

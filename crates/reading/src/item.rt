@@ -9,10 +9,3 @@ pub struct ItemData {
     pub start: usize,
     pub size: usize,
 }
-
-// What lookup finds, or the refusal.
-#[derive(Clone, Copy)]
-pub enum Found {
-    Data(ItemData),
-    Refused(u8),
-}

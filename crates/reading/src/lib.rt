@@ -6,6 +6,6 @@ pub mod check;
 pub mod float;
 pub mod item;
 pub mod number;
-pub mod order;
 pub mod part;
+pub mod refusal;
 pub mod verdict;

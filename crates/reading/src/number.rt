@@ -1,13 +1,7 @@
-// Numbers in lent bytes. A byte past the end reads as 0, so that every call has an answer at every place.
+// Numbers in lent bytes. A byte past the end reads as 0, so that every call has an answer at every place. The definitions are one over the width; the
+// functions are one for each, since each width is read by the steps that the machine takes at once, and a trait over them would be no plainer.
 ghost use Rattle.std.specs.Prelude.{◌≡◌, ◌+◌, ◌≤◌, ◌<◌, length};
-ghost use Rattle.reading.specs.Number.{be, le, signed, bits};
-
-// A byte in 16 bits.
-pub fn wide16(b: u8) -> u16
-    ensures { (result ≡ b) × (result < 256) }
-{
-    b as u16
-}
+ghost use Rattle.reading.specs.Number.{be, le};
 
 // The byte at place p.
 pub fn byte(s: &[u8], p: usize) -> u8
@@ -19,32 +13,14 @@ pub fn byte(s: &[u8], p: usize) -> u8
     0
 }
 
-fn le16_inside(s: &[u8], p: usize) -> u16
-    requires { p + 2 ≤ length s.now }
-    ensures { result ≡ le 2 s.now p }
-{
-    wide16(s[p]) + 256 * wide16(s[p + 1])
-}
-
 // The little-endian number of 2 bytes at place p.
 pub fn le16(s: &[u8], p: usize) -> u16
     ensures { result ≡ le 2 s.now p }
 {
-    if 2 <= s.len() {
-        if p <= s.len() - 2 {
-            return le16_inside(s, p);
-        }
+    if 2 <= s.len() && p <= s.len() - 2 {
+        return u16::from_le_bytes([s[p], s[p + 1]]);
     }
-    wide16(byte(s, p))
-}
-
-fn le32_inside(s: &[u8], p: usize) -> u32
-    requires { p + 4 ≤ length s.now }
-    ensures { result ≡ le 4 s.now p }
-{
-    let low = le16_inside(s, p) as u32;
-    let high = le16_inside(s, p + 2) as u32;
-    low + 65536 * high
+    byte(s, p) as u16
 }
 
 fn le32_past(s: &[u8], p: usize) -> u32
@@ -62,10 +38,8 @@ fn le32_past(s: &[u8], p: usize) -> u32
 pub fn le32(s: &[u8], p: usize) -> u32
     ensures { result ≡ le 4 s.now p }
 {
-    if 4 <= s.len() {
-        if p <= s.len() - 4 {
-            return le32_inside(s, p);
-        }
+    if 4 <= s.len() && p <= s.len() - 4 {
+        return u32::from_le_bytes([s[p], s[p + 1], s[p + 2], s[p + 3]]);
     }
     le32_past(s, p)
 }
@@ -74,16 +48,16 @@ pub fn le32(s: &[u8], p: usize) -> u32
 pub fn be16(s: &[u8], p: usize) -> u16
     ensures { result ≡ be 2 s.now p }
 {
-    let x = le16(s, p);
-    256 * (x % 256) + x / 256
+    let low_first = le16(s, p);
+    low_first.swap_bytes()
 }
 
 // The big-endian number of 4 bytes at place p.
 pub fn be32(s: &[u8], p: usize) -> u32
     ensures { result ≡ be 4 s.now p }
 {
-    let x = le32(s, p);
-    16777216 * (x % 256) + 65536 * (x / 256 % 256) + 256 * (x / 65536 % 256) + x / 16777216
+    let lowest_first = le32(s, p);
+    lowest_first.swap_bytes()
 }
 
 // The big-endian number of 8 bytes at place p.
@@ -96,59 +70,4 @@ pub fn be64(s: &[u8], p: usize) -> u64
     let high = be32(s, p) as u64;
     let low = be32(s, p + 4) as u64;
     4294967296 * high + low
-}
-
-// The signed number whose 8 bits are those of x.
-pub fn signed8(x: u8) -> i8
-    ensures { result ≡ signed 1 x }
-{
-    if x < 0x80 {
-        return x as i8;
-    }
-    let y = 0xff - x;
-    -1 - y as i8
-}
-
-// The signed number whose 16 bits are those of x.
-pub fn signed16(x: u16) -> i16
-    ensures { result ≡ signed 2 x }
-{
-    if x < 0x8000 {
-        return x as i16;
-    }
-    let y = 0xffff - x;
-    -1 - y as i16
-}
-
-// The signed number whose 32 bits are those of x.
-pub fn signed32(x: u32) -> i32
-    ensures { result ≡ signed 4 x }
-{
-    if x < 0x8000_0000 {
-        return x as i32;
-    }
-    let y = 0xffff_ffff - x;
-    -1 - y as i32
-}
-
-// The 16 bits of the signed number x.
-pub fn bits16(x: i16) -> u16
-    ensures { result ≡ bits 2 x }
-{
-    if 0 <= x {
-        return x as u16;
-    }
-    let y = -1 - x;
-    0xffff - y as u16
-}
-
-// The 32 bits of the signed number x.
-pub fn bits32(x: i32) -> u32
-    ensures { result ≡ bits 4 x }
-{
-    if 0 <= x {
-        return x as u32;
-    }
-    let y = -1 - x;
-    0xffff_ffff - y as u32
 }

@@ -1,43 +1,60 @@
 // The verdict of judging.
 ghost use Rattle.std.specs.Prelude.{◌≡◌, ◌-◌};
-ghost use Rattle.reading.specs.Verdict.{with_tail};
-ghost use Rattle.reading.specs.Answers.{answer_of_explanation, answer_of_verdict};
 
-use crate::check::Explanation;
-use crate::order::smaller;
+use crate::check::Reason;
+use crate::refusal::Refusal;
+use std::fmt;
 
-// What judging finds: the file is whole, with its extent and how many bytes lie after it; or the refusal and its entry or read.
+// The file is whole: its extent, and how many bytes lie after it.
 #[derive(Clone, Copy)]
-pub enum Verdict {
-    Whole { extent: usize, tail: usize },
-    Refused { number: u8, entry: usize },
+pub struct Whole {
+    pub extent: usize,
+    pub tail: usize,
 }
 
-// How many bytes lie after the extent; 0 if it is past the length, as no file's is.
-fn tail_of(extent: usize, length: usize) -> usize
-    ensures { result ≡ length - extent }
-{
-    length - smaller(extent, length)
+// The file is refused, at this entry or read, from one; 0 for the header.
+#[derive(Clone, Copy)]
+pub struct Refused {
+    pub refusal: Refusal,
+    pub entry: usize,
 }
 
-// The verdict on a file of this length, without its reason.
-pub fn verdict_of(e: Explanation, length: usize) -> Verdict
-    ensures { answer_of_verdict result ≡ with_tail (λ x. x) length (answer_of_explanation e) }
-{
-    match e {
-        Explanation::Whole(extent) => Verdict::Whole {
+impl From<Reason> for Refused {
+    ghost use Rattle.reading.specs.Answers.{refusal_of};
+
+    ghost from_gives = { λ w r. r ≡ record { refusal = refusal_of w.failure; entry = w.entry } };
+
+    fn from(w: Reason) -> Refused {
+        Refused {
+            refusal: Refusal::from(w.failure),
+            entry: w.entry,
+        }
+    }
+}
+
+// As the programs' lines tell it, by the refusal's number.
+impl fmt::Display for Refused {
+    fn fmt<W: fmt::Write>(&self, f: &mut fmt::Formatter<W>) -> fmt::Result {
+        write!(f, "refused {} at {}", self.refusal, self.entry)
+    }
+}
+
+impl From<Refused> for Refusal {
+    ghost from_gives = { λ w r. r ≡ w.refusal };
+
+    fn from(w: Refused) -> Refusal {
+        w.refusal
+    }
+}
+
+impl Whole {
+    // The verdict on a whole file of this length. The tail is 0 if the extent is past the length, as no file's is.
+    pub fn new(extent: usize, length: usize) -> Whole
+        ensures { result ≡ record { extent = extent; tail = length - extent } }
+    {
+        Whole {
             extent,
-            tail: tail_of(extent, length),
-        },
-        Explanation::Failed { test, entry } => Verdict::Refused {
-            number: test.number,
-            entry,
-        },
-        Explanation::Short {
-            start: _,
-            least: _,
-            entry,
-        } => Verdict::Refused { number: 1, entry },
-        Explanation::Beyond { start: _, entry } => Verdict::Refused { number: 1, entry },
+            tail: length.saturating_sub(extent),
+        }
     }
 }

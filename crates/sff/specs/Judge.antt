@@ -2,9 +2,10 @@
 use Rattle.std.specs.Prelude.{ℕ, Bool, true, eqb}
 use Rattle.reading.specs.Choice.{pick}
 use Rattle.reading.specs.declared.check.Rule.TheVariants.{Other}
+use Rattle.reading.specs.declared.check.Requirement.TheVariants.{IndexMet}
 use Rattle.reading.specs.Check.{Check, done, must, ◌>>=◌, ◌>>◌}
 use Rattle.sff_fields.specs.declared.header.Header.{Header}
-use Rattle.sff_fields.specs.Header.{index_offset, is_met}
+use Rattle.sff_fields.specs.Header.{index_offset}
 use Rattle.sff.specs.declared.walk.Boundary.{Boundary}
 use Rattle.sff.specs.Header.{header}
 use Rattle.sff.specs.Walk.{first_boundary, skip_index, walk}
@@ -17,7 +18,7 @@ index_met header boundary = pick (eqb header.index_offset 0) true boundary.met
 unfoldable pub ending : Header → Boundary → Check ℕ
 ending header boundary = do
   final ← skip_index header boundary
-  must (index_offset header) (Other is_met (index_met header final)) 4
+  must (index_offset header) (Other IndexMet (index_met header final)) 4
   done final.position
 
 -- judging the reads of a file with this header

@@ -5,5 +5,4 @@ pub mod Judge
 pub mod Lookup
 pub mod Reads
 pub mod Flow
-pub mod Answers
 pub mod Private

@@ -5,6 +5,7 @@ use Rattle.reading.specs.Check.{Check, done, need, provided, at, ◌>>=◌, ◌>
 use Rattle.sff_fields.specs.declared.header.Header.{Header}
 use Rattle.sff_fields.specs.Header.{index_size}
 use Rattle.sff.specs.declared.walk.Boundary.{Boundary}
+use Rattle.sff.specs.declared.walk.Placed.{Placed}
 use Rattle.sff.specs.Read.{framing}
 
 -- the boundary before the first read
@@ -24,11 +25,6 @@ past_index header boundary = do
 -- at every read boundary a position equal to the index offset skips the index, its length rounded up to 8
 unfoldable pub skip_index : Header → Boundary → Check Boundary
 skip_index header boundary = pick (eqb boundary.position header.index_offset) (past_index header boundary) (done boundary)
-
--- a read's place, and the boundary behind it
-pub record Placed : Type 0 where
-  pub start : ℕ
-  pub behind : Boundary
 
 -- the read behind a boundary, which is read i, counted from 0 and reported from one; the index is reported at 0
 unfoldable pub next_read : Header → ℕ → Boundary → Check Placed

@@ -1,11 +1,12 @@
 // The common header.
 ghost use Rattle.std.specs.Prelude.{◌≡◌};
+ghost use Rattle.reading.specs.Answers.{outcome_of, answer_of};
 ghost use Rattle.reading.specs.Check.{run, answer};
 ghost use Rattle.sff.specs.Header.{header_of, header};
-ghost use Rattle.sff.specs.Answers.{outcome_of_header_read, answer_of_header_found};
 
-use reading::check::{Test, Tested};
+use reading::check::Failure;
 use reading::number::{be16, be32, byte};
+use reading::refusal::Refusal;
 use sff_fields::header::{
     CODE_PLACE, FLOWS_PLACE, FRONT_LENGTH, HEADER_LENGTH_PLACE, Header, INDEX_LENGTH_PLACE,
     INDEX_OFFSET_PLACE, KEY_LENGTH_PLACE, MARK_PLACE, READS_PLACE, VERSION_PLACE, front_tests,
@@ -13,21 +14,6 @@ use sff_fields::header::{
 
 // The second half of the index offset.
 const INDEX_OFFSET_LOW: usize = 12;
-
-// The header, or the refusal.
-#[derive(Clone, Copy)]
-pub enum HeaderFound {
-    At(Header),
-    Refused(u8),
-}
-
-// The same, with the reason: the first test that fails, or the bytes that are missing, by their start and end.
-#[derive(Clone, Copy)]
-pub(crate) enum HeaderRead {
-    At(Header),
-    Failed(Test),
-    Short(usize, usize),
-}
 
 // The index offset is read in two halves, because reading it whole is a call at run time.
 fn header_of(h: &[u8]) -> Header
@@ -45,34 +31,32 @@ fn header_of(h: &[u8]) -> Header
     }
 }
 
-pub(crate) fn read_header(s: &[u8]) -> HeaderRead
-    ensures { outcome_of_header_read result ≡ run header s.now }
+// The header, or the first test that fails, or the bytes of it that are missing.
+pub(crate) fn read_header(s: &[u8]) -> Result<Header, Failure>
+    ensures { outcome_of result ≡ run header s.now }
 {
     if s.len() < FRONT_LENGTH {
-        return HeaderRead::Short(0, FRONT_LENGTH);
+        return Err(Failure::Short {
+            start: 0,
+            end: FRONT_LENGTH,
+        });
     }
     let h = &s[..FRONT_LENGTH];
     let mark = be32(h, MARK_PLACE);
     let version = be32(h, VERSION_PLACE);
     let code = byte(h, CODE_PLACE);
     let d = header_of(h);
-    if let Tested::Failed(t) = front_tests(mark, version, code, d) {
-        return HeaderRead::Failed(t);
-    }
+    front_tests(mark, version, code, d)?;
     let end = d.header_length as usize;
     if s.len() < end {
-        return HeaderRead::Short(0, end);
+        return Err(Failure::Short { start: 0, end });
     }
-    HeaderRead::At(d)
+    Ok(d)
 }
 
 // The fields of the common header.
-pub fn read_fields(s: &[u8]) -> HeaderFound
-    ensures { answer_of_header_found result ≡ answer header s.now }
+pub fn read_fields(s: &[u8]) -> Result<Header, Refusal>
+    ensures { answer_of result ≡ answer header s.now }
 {
-    match read_header(s) {
-        HeaderRead::At(d) => HeaderFound::At(d),
-        HeaderRead::Failed(t) => HeaderFound::Refused(t.number),
-        HeaderRead::Short(_, _) => HeaderFound::Refused(1),
-    }
+    Ok(read_header(s)?)
 }

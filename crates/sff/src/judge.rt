@@ -1,83 +1,53 @@
 // Judging.
 ghost use Rattle.std.specs.Prelude.{◌≡◌, ◌≤◌, length};
+ghost use Rattle.reading.specs.Answers.{outcome_of, outcome_of_judged, answer_of_verdict};
 ghost use Rattle.reading.specs.Check.{run};
 ghost use Rattle.reading.specs.Verdict.{verdict_of};
-ghost use Rattle.reading.specs.Explain.{explanation_of};
-ghost use Rattle.reading.specs.Answers.{answer_of_verdict};
 ghost use Rattle.sff.specs.Judge.{ending, judging, judging_reads, extent_of};
 
-use crate::header::{HeaderRead, read_header};
-use crate::walk::{Boundary, Skipped, Walked, skip_index, walk};
-use reading::check::{Explanation, Rule, Test};
-use reading::verdict::{Verdict, verdict_of};
-use sff_fields::header::{Header, IS_MET, index_offset_field};
+use crate::header::read_header;
+use crate::walk::{Boundary, SffFile};
+use reading::check::{Failure, Reason, Requirement, Rule, failed};
+use reading::refusal::Refusal;
+use reading::verdict::{Refused, Whole};
+use sff_fields::header::index_offset_field;
 
-// What stands behind the last read.
-fn explain_ending(s: &[u8], d: Header, b: Boundary) -> Explanation
-    requires { b.position ≤ length s.now }
-    ensures { result ≡ explanation_of (run (ending d b) s.now) }
+// The extent, from the boundary behind the last read: the index may stand there too, and must have been met.
+fn judge_ending(file: SffFile<'_>, b: Boundary) -> Result<usize, Failure>
+    requires { b.position ≤ length file.bytes.now }
+    ensures { outcome_of result ≡ run (ending file.entry.header b) file.entry.bytes.now }
 {
-    match skip_index(s, d, b) {
-        Skipped::Short(start, least) => Explanation::Short {
-            start,
-            least,
-            entry: 0,
-        },
-        Skipped::To(c) => {
-            let extent = c.position;
-            if d.index_offset == 0 {
-                return Explanation::Whole(extent);
-            }
-            if c.met {
-                return Explanation::Whole(extent);
-            }
-            let test = Test {
-                field: index_offset_field(d),
-                rule: Rule::Other(IS_MET, false),
-                number: 4,
-            };
-            Explanation::Failed { test, entry: 0 }
-        }
+    let d = file.header;
+    let c = file.skip_index(b)?;
+    if d.index_offset != 0 && !c.met {
+        failed(
+            index_offset_field(d),
+            Rule::Other(Requirement::IndexMet, false),
+            Refusal::BadHeader,
+        )?;
     }
+    Ok(c.position)
 }
 
-fn explain_reads(s: &[u8], d: Header) -> Explanation
-    requires { d.header_length ≤ length s.now }
-    ensures { result ≡ explanation_of (run (judging_reads d) s.now) }
+fn judge_reads(file: SffFile<'_>) -> Result<usize, Reason>
+    ensures { outcome_of_judged result ≡ run (judging_reads file.entry.header) file.entry.bytes.now }
 {
-    let front = Boundary {
-        position: d.header_length as usize,
-        met: false,
-    };
-    match walk(s, d, d.reads as usize, 0, front) {
-        Walked::Failed(test, entry) => Explanation::Failed { test, entry },
-        Walked::Short(start, least, entry) => Explanation::Short {
-            start,
-            least,
-            entry,
-        },
-        Walked::Behind(b) => explain_ending(s, d, b),
-    }
+    let b = file.walk_first(file.header.reads as usize)?;
+    judge_ending(file, b).map_err(|f| f.at(0))
 }
 
-// Why the file is refused, or its extent.
-fn explain(s: &[u8]) -> Explanation
-    ensures { result ≡ explanation_of (run judging s.now) }
+// The extent, or why the file is refused.
+fn extent(s: &[u8]) -> Result<usize, Reason>
+    ensures { outcome_of_judged result ≡ run judging s.now }
 {
-    match read_header(s) {
-        HeaderRead::Failed(test) => Explanation::Failed { test, entry: 0 },
-        HeaderRead::Short(start, least) => Explanation::Short {
-            start,
-            least,
-            entry: 0,
-        },
-        HeaderRead::At(d) => explain_reads(s, d),
-    }
+    let header = read_header(s).map_err(|f| f.at(0))?;
+    judge_reads(SffFile { bytes: s, header })
 }
 
 // Judges the file: whether it is whole, with its extent and its tail, or the refusal and its read.
-pub fn judge(s: &[u8]) -> Verdict
+pub fn judge(s: &[u8]) -> Result<Whole, Refused>
     ensures { answer_of_verdict result ≡ verdict_of judging extent_of s.now }
 {
-    verdict_of(explain(s), s.len())
+    let extent = extent(s)?;
+    Ok(Whole::new(extent, s.len()))
 }

@@ -1,139 +1,114 @@
 // The walk over the reads, from boundary to boundary.
 ghost use Rattle.std.specs.Prelude.{◌≡◌, ℕ, ◌+◌, ◌≤◌, ◌<◌, length};
+ghost use Rattle.reading.specs.Answers.{outcome_of, outcome_of_judged, answer_of};
 ghost use Rattle.reading.specs.Check.{run, answer};
-ghost use Rattle.sff.specs.Walk.{skip_index, next_read, walk_past, before_read};
-ghost use Rattle.sff.specs.Answers.{outcome_of_skipped, outcome_of_step, outcome_of_walked, answer_of_reached};
+ghost use Rattle.sff.specs.Walk.{first_boundary, skip_index, next_read, walk_past, before_read};
 
 use crate::read::frame;
-use reading::check::{Ended, Test};
+use reading::check::{Failure, Reason};
+use reading::refusal::Refusal;
 use sff_fields::header::{Header, index_size};
 
-// A boundary between reads: its position, and whether the index has been met.
+// An SFF file: its bytes, and its header, which stands in them.
+#[derive(Clone, Copy)]
+pub(crate) struct SffFile<'a> {
+    pub bytes: &'a [u8],
+    pub header: Header,
+    ghost present: { header.header_length ≤ length bytes.now },
+}
+
+// A boundary between reads: its position, and whether the index has been met. That it lies within a file's bytes is asked of each call: a boundary
+// that held the file too would carry bytes and header through each step of the walk.
 #[derive(Clone, Copy)]
 pub(crate) struct Boundary {
     pub position: usize,
     pub met: bool,
 }
 
-// The boundary behind an index, if one starts there, or the bytes of it that are missing, by their start and end.
+// A read's place, and the boundary behind it.
 #[derive(Clone, Copy)]
-pub(crate) enum Skipped {
-    To(Boundary),
-    Short(usize, usize),
+pub(crate) struct Placed {
+    pub start: usize,
+    pub behind: Boundary,
 }
 
-// The next read's place, with the boundary behind it; or the test that fails, or the bytes that are missing, of the read or of the index.
-#[derive(Clone, Copy)]
-pub(crate) enum Step {
-    Next(usize, Boundary),
-    Failed(Test),
-    Short(usize, usize),
-    ShortIndex(usize, usize),
-}
-
-// The boundary behind the reads; or the same refusals, with the read, or 0 for the index.
-#[derive(Clone, Copy)]
-pub(crate) enum Walked {
-    Behind(Boundary),
-    Failed(Test, usize),
-    Short(usize, usize, usize),
-}
-
-// The boundary before a read, or the refusal.
-#[derive(Clone, Copy)]
-pub(crate) enum Reached {
-    At(Boundary),
-    Refused(u8),
-}
-
-// The boundary behind the index where it starts at boundary b, else b.
-pub(crate) fn skip_index(s: &[u8], d: Header, b: Boundary) -> Skipped
-    requires { b.position ≤ length s.now }
-    ensures { outcome_of_skipped result ≡ run (skip_index d b) s.now }
-{
-    let position = b.position;
-    if (position as u64) != d.index_offset {
-        return Skipped::To(b);
-    }
-    let end = position + index_size(d);
-    if s.len() < end {
-        return Skipped::Short(position, end);
-    }
-    Skipped::To(Boundary {
-        position: end,
-        met: true,
-    })
-}
-
-// The read behind boundary b, and behind the index where that stands between.
-pub(crate) fn next_read(s: &[u8], d: Header, b: Boundary) -> Step
-    requires { b.position ≤ length s.now }
-    ensures { (i : ℕ) → outcome_of_step i result ≡ run (next_read d i b) s.now }
-{
-    match skip_index(s, d, b) {
-        Skipped::Short(start, end) => Step::ShortIndex(start, end),
-        Skipped::To(c) => {
-            let start = c.position;
-            match frame(s, d.flows, start) {
-                Ended::Failed(test) => Step::Failed(test),
-                Ended::Short(missing, end) => Step::Short(missing, end),
-                Ended::At(end) => Step::Next(
-                    start,
-                    Boundary {
-                        position: end,
-                        met: c.met,
-                    },
-                ),
-            }
+impl<'a> SffFile<'a> {
+    // The boundary behind the index where it starts at boundary b, else b.
+    pub(crate) fn skip_index(self, b: Boundary) -> Result<Boundary, Failure>
+        requires { b.position ≤ length self.bytes.now }
+        ensures { outcome_of result ≡ run (skip_index self.entry.header b) self.entry.bytes.now }
+    {
+        let start = b.position;
+        if (start as u64) != self.header.index_offset {
+            return Ok(b);
         }
-    }
-}
-
-// The n reads from read i on, counted from 0.
-pub(crate) fn walk(s: &[u8], d: Header, n: usize, i: usize, b: Boundary) -> Walked
-    requires { (b.position ≤ length s.now) × (i + n < 0x8000000000000000) }
-    ensures { outcome_of_walked result ≡ run (walk_past d n i b) s.now }
-{
-    let mut here = b;
-    let mut j = 0;
-    while j < n {
-        match next_read(s, d, here) {
-            Step::Failed(test) => {
-                return Walked::Failed(test, i + j + 1);
-            }
-            Step::Short(start, end) => {
-                return Walked::Short(start, end, i + j + 1);
-            }
-            Step::ShortIndex(start, end) => {
-                return Walked::Short(start, end, 0);
-            }
-            Step::Next(_, behind) => {
-                here = behind;
-                j += 1;
-            }
+        let end = start + index_size(self.header);
+        if self.bytes.len() < end {
+            return Err(Failure::Short { start, end });
         }
+        Ok(Boundary {
+            position: end,
+            met: true,
+        })
     }
-    Walked::Behind(here)
-}
 
-// The boundary before read k, counted from one.
-pub(crate) fn walk_to(s: &[u8], d: Header, k: u64) -> Reached
-    requires { d.header_length ≤ length s.now }
-    ensures { answer_of_reached result ≡ answer (before_read d k) s.now }
-{
-    if k < 1 {
-        return Reached::Refused(7);
+    // The read behind boundary b, and behind the index where that stands between. It is read i, counted from 0; the index is reported at 0.
+    // Matches, because with `map_err` the walk takes twice the time.
+    pub(crate) fn next_read(self, i: usize, b: Boundary) -> Result<Placed, Reason>
+        requires { (b.position ≤ length self.bytes.now) × (i < 0x8000000000000000) }
+        ensures { outcome_of_judged result ≡ run (next_read self.entry.header i b) self.entry.bytes.now }
+    {
+        let here = match self.skip_index(b) {
+            Ok(c) => c,
+            Err(f) => return Err(f.at(0)),
+        };
+        let start = here.position;
+        let end = match frame(self.bytes, self.header.flows, start) {
+            Ok(end) => end,
+            Err(f) => return Err(f.at(i + 1)),
+        };
+        Ok(Placed {
+            start,
+            behind: Boundary {
+                position: end,
+                met: here.met,
+            },
+        })
     }
-    if (d.reads as u64) < k {
-        return Reached::Refused(7);
+
+    // The boundary behind the n reads from read i on, counted from 0.
+    pub(crate) fn walk(self, n: usize, i: usize, b: Boundary) -> Result<Boundary, Reason>
+        requires { (b.position ≤ length self.bytes.now) × (i + n < 0x8000000000000000) }
+        ensures { outcome_of_judged result ≡ run (walk_past self.entry.header n i b) self.entry.bytes.now }
+    {
+        let mut here = b;
+        for j in 0..n {
+            let read = self.next_read(i + j, here)?;
+            here = read.behind;
+        }
+        Ok(here)
     }
-    let front = Boundary {
-        position: d.header_length as usize,
-        met: false,
-    };
-    match walk(s, d, (k - 1) as usize, 0, front) {
-        Walked::Failed(test, _) => Reached::Refused(test.number),
-        Walked::Short(_, _, _) => Reached::Refused(1),
-        Walked::Behind(b) => Reached::At(b),
+
+    // The boundary behind the first n reads.
+    pub(crate) fn walk_first(self, n: usize) -> Result<Boundary, Reason>
+        requires { n < 0x8000000000000000 }
+        ensures { outcome_of_judged result
+            ≡ run (walk_past self.entry.header n 0 (first_boundary self.entry.header)) self.entry.bytes.now }
+    {
+        let front = Boundary {
+            position: self.header.header_length as usize,
+            met: false,
+        };
+        self.walk(n, 0, front)
+    }
+
+    // The boundary before read k, counted from one.
+    pub(crate) fn walk_to(self, k: u64) -> Result<Boundary, Refusal>
+        ensures { answer_of result ≡ answer (before_read self.entry.header k) self.entry.bytes.now }
+    {
+        if k < 1 || (self.header.reads as u64) < k {
+            return Err(Refusal::NotThere);
+        }
+        Ok(self.walk_first((k - 1) as usize)?)
     }
 }

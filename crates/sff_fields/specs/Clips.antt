@@ -4,7 +4,7 @@ use Rattle.reading.specs.Choice.{pick}
 use Rattle.reading.specs.declared.check.Field.{Field}
 use Rattle.reading.specs.declared.check.Rule.TheVariants.{AtMost}
 use Rattle.reading.specs.Check.{Check, unsigned_field, must, ◌>>◌}
-use Rattle.reading.specs.Part.{Span}
+use Rattle.reading.specs.declared.part.Span.{Span}
 use Rattle.sff_fields.specs.declared.read.ReadHeader.{ReadHeader}
 use Rattle.sff_fields.specs.Read.{letters_start}
 

@@ -3,6 +3,7 @@ use Rattle.std.specs.Prelude.{ℕ, ◌+◌, Bool, not, eqb}
 use Rattle.reading.specs.Choice.{pick}
 use Rattle.reading.specs.declared.check.Field.{Field}
 use Rattle.reading.specs.declared.check.Rule.TheVariants.{Exactly, EqualTo, Other}
+use Rattle.reading.specs.declared.check.Requirement.TheVariants.{BothOrNeither}
 use Rattle.reading.specs.Check.{Check, unsigned_field, must, ◌>>◌}
 use Rattle.sff_fields.specs.declared.header.Header.{Header}
 use Rattle.sff_fields.specs.Padding.{padded}
@@ -63,13 +64,6 @@ header_length header = unsigned_field 2 header_length_place header.header_length
 abbrev pub index_offset : Header → Field
 index_offset header = unsigned_field 8 index_offset_place header.index_offset
 
--- requirements that are no comparison with a number: index offset and length are both zero or neither, and the index is met
-abbrev pub both_or_neither : ℕ
-both_or_neither = 1
-
-abbrev pub is_met : ℕ
-is_met = 2
-
 abbrev pub same_zero : ℕ → ℕ → Bool
 same_zero offset length = pick (eqb offset 0) (eqb length 0) (not (eqb length 0))
 
@@ -87,7 +81,7 @@ length_check code header = do
 
 -- just one of index offset and length zero: 4
 unfoldable pub index_check : Header → Check (Unit {0})
-index_check header = must (index_offset header) (Other both_or_neither (same_zero header.index_offset header.index_length)) 4
+index_check header = must (index_offset header) (Other BothOrNeither (same_zero header.index_offset header.index_length)) 4
 
 -- the checks of the header's fields
 unfoldable pub front_check : ℕ → ℕ → ℕ → Header → Check (Unit {0})

@@ -4,4 +4,3 @@ pub mod Read
 pub mod Clips
 pub mod Contents
 pub mod Parts
-pub mod Answers

@@ -1,6 +1,6 @@
 -- SFF: all that is answered of a read, and where its parts stand.
 use Rattle.std.specs.Prelude.{ℕ, ◌+◌, ◌*◌, List, [], ◌∷◌}
-use Rattle.reading.specs.Part.{Span}
+use Rattle.reading.specs.declared.part.Span.{Span}
 use Rattle.sff_fields.specs.declared.read.ReadHeader.{ReadHeader}
 use Rattle.sff_fields.specs.declared.parts.Read.{Read}
 use Rattle.sff_fields.specs.declared.parts.ReadPart.{ReadPart}

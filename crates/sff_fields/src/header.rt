@@ -6,7 +6,8 @@ ghost use Rattle.sff_fields.specs.Header.{mark_field, version_field, code_field,
 ghost use Rattle.sff_fields.specs.Header.{front_check, index_size};
 
 use crate::padding::round_up;
-use reading::check::{Field, Rule, Tested, failed, unsigned_field};
+use reading::check::{Field, Requirement, Rule, Test, failed, unsigned_field};
+use reading::refusal::Refusal;
 
 // The places of the header's fields, and how many bytes they take.
 pub const MARK_PLACE: usize = 0;
@@ -35,11 +36,6 @@ pub const SFF_MARK: u32 = 0x2e736666;
 pub const SFF_VERSION: u32 = 1;
 
 pub const FORMAT_CODE: u8 = 1;
-
-// Requirements that are no comparison with a number: index offset and length are both zero or neither, and the index is met.
-const BOTH_OR_NEITHER: u8 = 1;
-
-pub const IS_MET: u8 = 2;
 
 // The fields of the common header; the flow letters start at 31, and the key behind them.
 #[derive(Clone, Copy)]
@@ -83,64 +79,69 @@ pub fn index_offset_field(d: Header) -> Field
     unsigned_field(8, INDEX_OFFSET_PLACE, d.index_offset)
 }
 
-fn mark_tests(mark: u32, version: u32) -> Tested
+#[tactic(auto, using(reading::proofs::Tests::tests), unfolding(crate::specs::Header::mark_check, reading::specs::Check::run))]
+fn mark_tests(mark: u32, version: u32) -> Result<(), Test>
     ensures { (l : List ℕ) → outcome_of_tested result ≡ run (mark_check mark version) l }
 {
     if mark != SFF_MARK {
-        return failed(mark_field(mark), Rule::Exactly(SFF_MARK as u64), 2);
+        return failed(
+            mark_field(mark),
+            Rule::Exactly(SFF_MARK as u64),
+            Refusal::OtherMark,
+        );
     }
     if version != SFF_VERSION {
-        return failed(version_field(version), Rule::Exactly(SFF_VERSION as u64), 3);
+        return failed(
+            version_field(version),
+            Rule::Exactly(SFF_VERSION as u64),
+            Refusal::OtherVersion,
+        );
     }
-    Tested::Passed
+    Ok(())
 }
 
-fn length_tests(code: u8, d: Header) -> Tested
+#[tactic(auto, using(reading::proofs::Tests::tests), unfolding(crate::specs::Header::length_check, reading::specs::Check::run))]
+fn length_tests(code: u8, d: Header) -> Result<(), Test>
     ensures { (l : List ℕ) → outcome_of_tested result ≡ run (length_check code d) l }
 {
     if code != FORMAT_CODE {
-        return failed(code_field(code), Rule::Exactly(FORMAT_CODE as u64), 4);
+        return failed(
+            code_field(code),
+            Rule::Exactly(FORMAT_CODE as u64),
+            Refusal::BadHeader,
+        );
     }
     let expected = round_up(FRONT_LENGTH + d.flows as usize + d.key_length as usize);
     if (d.header_length as usize) != expected {
-        return failed(header_length_field(d), Rule::EqualTo(expected as u64), 4);
-    }
-    Tested::Passed
-}
-
-fn index_tests(d: Header) -> Tested
-    ensures { (l : List ℕ) → outcome_of_tested result ≡ run (index_check d) l }
-{
-    if d.index_offset == 0 {
-        if d.index_length != 0 {
-            return failed(
-                index_offset_field(d),
-                Rule::Other(BOTH_OR_NEITHER, false),
-                4,
-            );
-        }
-        return Tested::Passed;
-    }
-    if d.index_length == 0 {
         return failed(
-            index_offset_field(d),
-            Rule::Other(BOTH_OR_NEITHER, false),
-            4,
+            header_length_field(d),
+            Rule::EqualTo(expected as u64),
+            Refusal::BadHeader,
         );
     }
-    Tested::Passed
+    Ok(())
+}
+
+#[tactic(auto, using(reading::proofs::Tests::tests, crate::proofs::header::Laws::same_zero_lem), unfolding(crate::specs::Header::index_check, reading::specs::Check::run))]
+fn index_tests(d: Header) -> Result<(), Test>
+    ensures { (l : List ℕ) → outcome_of_tested result ≡ run (index_check d) l }
+{
+    if (d.index_offset == 0) != (d.index_length == 0) {
+        return failed(
+            index_offset_field(d),
+            Rule::Other(Requirement::BothOrNeither, false),
+            Refusal::BadHeader,
+        );
+    }
+    Ok(())
 }
 
 // The checks of the header's fields: mark, version, code, header length, index offset and length.
-pub fn front_tests(mark: u32, version: u32, code: u8, d: Header) -> Tested
+pub fn front_tests(mark: u32, version: u32, code: u8, d: Header) -> Result<(), Test>
     ensures { (l : List ℕ) → outcome_of_tested result ≡ run (front_check mark version code d) l }
 {
-    if let Tested::Failed(t) = mark_tests(mark, version) {
-        return Tested::Failed(t);
-    }
-    if let Tested::Failed(t) = length_tests(code, d) {
-        return Tested::Failed(t);
-    }
+    mark_tests(mark, version)?;
+    length_tests(code, d)?;
     index_tests(d)
 }
 

@@ -9,7 +9,7 @@ pub fn padding_behind(n: usize) -> usize
     (8 - n % 8) % 8
 }
 
-// n rounded up to 8.
+// n rounded up to 8. By `padding_behind`, which every n has, where the library's `next_multiple_of` asks that the result fits: so the rule stands once.
 pub(crate) fn round_up(n: usize) -> usize
     requires { n < 0x8000000000000000 }
     ensures { (result ≡ padded n) × (result < n + 8) }

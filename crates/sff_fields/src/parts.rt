@@ -3,6 +3,7 @@ ghost use Rattle.std.specs.Prelude.{◌≡◌};
 ghost use Rattle.sff_fields.specs.Parts.{span_of};
 
 use crate::position::BasePosition;
+use reading::part::Span;
 
 // All that is answered of a read: its header's fields, where its parts start, and the first and last base of its insert.
 #[derive(Clone, Copy)]
@@ -37,41 +38,17 @@ pub enum ReadPart {
     Insert,
 }
 
-// Where a part of the bytes stands.
-#[derive(Clone, Copy)]
-pub struct Place {
-    pub start: usize,
-    pub size: usize,
-}
-
 // Where this part of the read stands.
-pub fn place_of(which: ReadPart, r: Read) -> Place
-    ensures { (result.start ≡ (span_of which r).start) × (result.size ≡ (span_of which r).size) }
+pub fn span_of(which: ReadPart, r: Read) -> Span
+    ensures { result ≡ span_of which r }
 {
-    match which {
-        ReadPart::Name => Place {
-            start: r.name_start,
-            size: r.name_length as usize,
-        },
-        ReadPart::Flows => Place {
-            start: r.flows_start,
-            size: 2 * r.flows as usize,
-        },
-        ReadPart::Steps => Place {
-            start: r.steps_start,
-            size: r.bases as usize,
-        },
-        ReadPart::Letters => Place {
-            start: r.letters_start,
-            size: r.bases as usize,
-        },
-        ReadPart::Qualities => Place {
-            start: r.qualities_start,
-            size: r.bases as usize,
-        },
-        ReadPart::Insert => Place {
-            start: r.insert_start,
-            size: r.insert_length,
-        },
-    }
+    let (start, size) = match which {
+        ReadPart::Name => (r.name_start, r.name_length as usize),
+        ReadPart::Flows => (r.flows_start, 2 * r.flows as usize),
+        ReadPart::Steps => (r.steps_start, r.bases as usize),
+        ReadPart::Letters => (r.letters_start, r.bases as usize),
+        ReadPart::Qualities => (r.qualities_start, r.bases as usize),
+        ReadPart::Insert => (r.insert_start, r.insert_length),
+    };
+    Span { start, size }
 }

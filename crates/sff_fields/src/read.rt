@@ -5,7 +5,8 @@ ghost use Rattle.reading.specs.Answers.{outcome_of_tested};
 ghost use Rattle.sff_fields.specs.Read.{read_header_length, read_length_check, data_length};
 
 use crate::padding::round_up;
-use reading::check::{Field, Rule, Tested, failed, unsigned_field};
+use reading::check::{Field, Rule, Test, failed, unsigned_field};
+use reading::refusal::Refusal;
 
 // How many bytes the fields of a read's header take.
 pub const READ_FRONT_LENGTH: usize = 16;
@@ -30,15 +31,16 @@ fn read_header_length_field(start: usize, stated: u16) -> Field
 }
 
 // The check of the header length that a read states which starts here and has a name of so many bytes.
-pub fn read_length_tests(start: usize, stated: u16, name: u16) -> Tested
+#[tactic(auto, using(reading::proofs::Tests::tests), unfolding(crate::specs::Read::read_length_check, reading::specs::Check::run))]
+pub fn read_length_tests(start: usize, stated: u16, name: u16) -> Result<(), Test>
     ensures { (l : List ℕ) → outcome_of_tested result ≡ run (read_length_check start stated name) l }
 {
     let expected = round_up(READ_FRONT_LENGTH + name as usize);
     if (stated as usize) != expected {
         let field = read_header_length_field(start, stated);
-        return failed(field, Rule::EqualTo(expected as u64), 9);
+        return failed(field, Rule::EqualTo(expected as u64), Refusal::BadSize);
     }
-    Tested::Passed
+    Ok(())
 }
 
 // How many bytes the data of a read of so many bases take, in a file of so many flows.

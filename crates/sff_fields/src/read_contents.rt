@@ -12,9 +12,5 @@ use contents::steps::steps_hold;
 pub fn contents_hold(d: ReadHeader, flows: u16, steps: &[u8]) -> bool
     ensures { (l : List ℕ) → pick result (ok tt) (refused 11 0) ≡ answer (contents_check d flows steps.now) l }
 {
-    let hold = clips_hold(d);
-    if hold {
-        return steps_hold(flows, steps);
-    }
-    false
+    clips_hold(d) && steps_hold(flows, steps)
 }

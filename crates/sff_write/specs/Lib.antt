@@ -1,5 +1,4 @@
 pub mod Header
 pub mod Read
 pub mod Write
-pub mod Answers
 pub mod Private

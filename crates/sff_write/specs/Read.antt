@@ -7,6 +7,7 @@ use Rattle.sff_fields.specs.Padding.{padding, padded}
 use Rattle.sff_fields.specs.Read.{read_front_length}
 use Rattle.writing.specs.Put.{digits, words}
 use Rattle.sff_write.specs.declared.read.Clips.{Clips}
+use Rattle.sff_write.specs.declared.read.GivenRead as code
 
 -- a read that the writer is given
 pub record GivenRead : Type 0 where
@@ -24,6 +25,10 @@ given_read name flows steps letters qualities clips =
 -- the read that is lent by these references
 abbrev pub lent_read : Bor (List ℕ) → Bor (List ℕ) → Bor (List ℕ) → Bor (List ℕ) → Bor (List ℕ) → Clips → GivenRead
 lent_read name flows steps letters qualities clips = given_read name.now flows.now steps.now letters.now qualities.now clips
+
+-- the read that the code hands on
+abbrev pub read_of : code.GivenRead → GivenRead
+read_of read = lent_read read.name read.flows read.steps read.letters read.qualities read.clips
 
 -- the clips fit their fields
 unfoldable pub clips_fit : Clips → Check (Unit {0})

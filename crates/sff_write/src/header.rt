@@ -10,17 +10,16 @@ use sff_fields::header::{
 };
 use sff_fields::padding::padding_behind;
 use writing::bytes::{copy, put_zeros};
-use writing::number::{put8, put16, put32};
 
 // The mark, the version, no index, and the number of reads.
 fn put_front(out: &mut [u8], reads: u32)
     requires { front_length ≤ length out.old }
     ensures { out.new ≡ put out.old 0 (front_bytes reads) }
 {
-    put32(out, MARK_PLACE, SFF_MARK);
-    put32(out, VERSION_PLACE, SFF_VERSION);
+    copy(out, MARK_PLACE, &SFF_MARK.to_be_bytes());
+    copy(out, VERSION_PLACE, &SFF_VERSION.to_be_bytes());
     put_zeros(out, INDEX_OFFSET_PLACE, 12);
-    put32(out, READS_PLACE, reads);
+    copy(out, READS_PLACE, &reads.to_be_bytes());
 }
 
 // The lengths of the header, the key and the flows, and the format code.
@@ -28,10 +27,10 @@ fn put_lengths(out: &mut [u8], size: u16, key: u16, flows: u16)
     requires { front_length ≤ length out.old }
     ensures { out.new ≡ put out.old header_length_place (length_bytes size key flows) }
 {
-    put16(out, HEADER_LENGTH_PLACE, size);
-    put16(out, KEY_LENGTH_PLACE, key);
-    put16(out, FLOWS_PLACE, flows);
-    put8(out, CODE_PLACE, FORMAT_CODE);
+    copy(out, HEADER_LENGTH_PLACE, &size.to_be_bytes());
+    copy(out, KEY_LENGTH_PLACE, &key.to_be_bytes());
+    copy(out, FLOWS_PLACE, &flows.to_be_bytes());
+    copy(out, CODE_PLACE, &FORMAT_CODE.to_be_bytes());
 }
 
 fn put_letters(out: &mut [u8], letters: &[u8], key: &[u8], zeros: usize)

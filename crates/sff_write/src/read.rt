@@ -3,14 +3,12 @@ ghost use Rattle.std.specs.Prelude.{◌≡◌, List, ◌++◌, ℕ, ◌+◌, ◌
 ghost use Rattle.reading.specs.Choice.{pick};
 ghost use Rattle.reading.specs.Check.{answer, ok, refused};
 ghost use Rattle.writing.specs.Put.{put};
-ghost use Rattle.sff_write.specs.Read.{lent_read, name_fits, clips_fit, lengths_check, read_header_size, header_with};
-ghost use Rattle.sff_write.specs.Read.{length_bytes, clip_bytes, field_bytes, read_bytes};
-ghost use Rattle.sff_write.specs.Private.{FittingClips};
+ghost use Rattle.sff_write.specs.Read.{name_fits, clips_fit, length_bytes, clip_bytes, field_bytes};
 
 use sff_fields::padding::padding_behind;
 use sff_fields::read::{READ_FRONT_LENGTH, ReadHeader};
 use writing::bytes::{copy, put_zeros};
-use writing::number::{put_words, put16, put32};
+use writing::number::put_words;
 
 // The clips of a read, from one; 0 for none.
 #[derive(Clone, Copy)]
@@ -21,105 +19,50 @@ pub struct Clips {
     pub adapter_right: u64,
 }
 
+// A read that the writer is given: its name, flow values, flow steps, letters, qualities and clips.
+#[derive(Clone, Copy)]
+pub struct GivenRead<'a> {
+    pub name: &'a [u8],
+    pub flows: &'a [u16],
+    pub steps: &'a [u8],
+    pub letters: &'a [u8],
+    pub qualities: &'a [u8],
+    pub clips: Clips,
+}
+
 fn clips_fit(c: Clips) -> bool
     ensures { (l : List ℕ) → pick result (ok tt) (refused 9 0) ≡ answer (clips_fit c) l }
 {
-    if 65535 < c.quality_left {
-        return false;
-    }
-    if 65535 < c.quality_right {
-        return false;
-    }
-    if 65535 < c.adapter_left {
-        return false;
-    }
-    if 65535 < c.adapter_right {
-        return false;
-    }
-    true
+    c.quality_left <= 65535
+        && c.quality_right <= 65535
+        && c.adapter_left <= 65535
+        && c.adapter_right <= 65535
 }
 
 // The length of the header of a read whose name has n bytes fits its field.
 fn name_fits(n: usize) -> bool
     ensures { (l : List ℕ) → pick result (ok tt) (refused 9 0) ≡ answer (name_fits n) l }
 {
-    if 65535 < n {
-        return false;
-    }
-    READ_FRONT_LENGTH + n + padding_behind(READ_FRONT_LENGTH + n) <= 65535
-}
-
-// The lengths fit their fields and agree, in a file of so many flows.
-pub(crate) fn lengths_hold(
-    count: u64,
-    name: &[u8],
-    flows: &[u16],
-    steps: &[u8],
-    letters: &[u8],
-    qualities: &[u8],
-    clips: Clips,
-) -> bool
-    ensures { (l : List ℕ) → pick result (ok tt) (refused 9 0)
-        ≡ answer (lengths_check count (lent_read name.entry flows.entry steps.entry letters.entry qualities.entry clips)) l }
-{
-    let fits = name_fits(name.len());
-    if fits {
-        if 65535 < count {
-            return false;
-        }
-        if flows.len() as u64 != count {
-            return false;
-        }
-        if steps.len() != letters.len() {
-            return false;
-        }
-        if qualities.len() != letters.len() {
-            return false;
-        }
-        if 0xffff_ffff < letters.len() {
-            return false;
-        }
-        return clips_fit(clips);
-    }
-    false
-}
-
-// The header fields of a read that starts at place p.
-pub(crate) fn header_with(p: usize, name: usize, bases: usize, c: Clips) -> ReadHeader
-    requires lengths_fit { (read_header_size name ≤ 65535) × (bases ≤ 0xffffffff) }
-    requires fitting_clips { FittingClips c }
-    ensures { result ≡ header_with p name bases c }
-{
-    let size = READ_FRONT_LENGTH + name + padding_behind(READ_FRONT_LENGTH + name);
-    ReadHeader {
-        start: p,
-        header_length: size as u16,
-        name_length: name as u16,
-        bases: bases as u32,
-        quality_left: c.quality_left as u16,
-        quality_right: c.quality_right as u16,
-        adapter_left: c.adapter_left as u16,
-        adapter_right: c.adapter_right as u16,
-    }
+    n <= 65535 && READ_FRONT_LENGTH + n + padding_behind(READ_FRONT_LENGTH + n) <= 65535
 }
 
 fn put_lengths(out: &mut [u8], p: usize, d: ReadHeader)
     requires { p + 16 ≤ length out.old }
     ensures { out.new ≡ put out.old p (length_bytes d) }
 {
-    put16(out, p, d.header_length);
-    put16(out, p + 2, d.name_length);
-    put32(out, p + 4, d.bases);
+    copy(out, p, &d.header_length.to_be_bytes());
+    copy(out, p + 2, &d.name_length.to_be_bytes());
+    copy(out, p + 4, &d.bases.to_be_bytes());
 }
 
 fn put_clips(out: &mut [u8], p: usize, d: ReadHeader)
     requires { p + 8 ≤ length out.old }
     ensures { out.new ≡ put out.old p (clip_bytes d) }
 {
-    put16(out, p, d.quality_left);
-    put16(out, p + 2, d.quality_right);
-    put16(out, p + 4, d.adapter_left);
-    put16(out, p + 6, d.adapter_right);
+    copy(out, p, &d.quality_left.to_be_bytes());
+    copy(out, p + 2, &d.quality_right.to_be_bytes());
+    copy(out, p + 4, &d.adapter_left.to_be_bytes());
+    copy(out, p + 6, &d.adapter_right.to_be_bytes());
 }
 
 fn put_header(out: &mut [u8], p: usize, d: ReadHeader, name: &[u8], zeros: usize)
@@ -135,45 +78,73 @@ fn put_header(out: &mut [u8], p: usize, d: ReadHeader, name: &[u8], zeros: usize
     put_zeros(out, end, zeros);
 }
 
-fn put_bases(out: &mut [u8], p: usize, steps: &[u8], letters: &[u8], qualities: &[u8], zeros: usize)
-    requires { p + length steps.now + length letters.now + length qualities.now + zeros ≤ length out.old }
-    ensures { out.new
-        ≡ put out.old p (steps.now ++ (letters.now ++ (qualities.now ++ replicate zeros 0))) }
-{
-    copy(out, p, steps);
-    let second = p + steps.len();
-    copy(out, second, letters);
-    let third = second + letters.len();
-    copy(out, third, qualities);
-    let last = third + qualities.len();
-    put_zeros(out, last, zeros);
-}
+impl GivenRead<'_> {
+    ghost use Rattle.sff_write.specs.Read.{read_of, lengths_check, header_for, read_header_size, read_bytes};
+    ghost use Rattle.sff_write.specs.Private.{FittingClips};
 
-// Writes a read at place p, of which all is known to fit.
-pub(crate) fn put_read(
-    out: &mut [u8],
-    p: usize,
-    d: ReadHeader,
-    name: &[u8],
-    flows: &[u16],
-    steps: &[u8],
-    letters: &[u8],
-    qualities: &[u8],
-    clips: Clips,
-)
-    requires lengths_fit { (length name.now ≤ 65535) × (length flows.now ≤ 65535) × (length letters.now ≤ 0xffffffff)
-        × (length steps.now ≡ length letters.now) × (length qualities.now ≡ length letters.now) }
-    requires has_room { p + length (read_bytes d (lent_read name flows steps letters qualities clips)) ≤ length out.old }
-    ensures { out.new
-        ≡ put out.old p (read_bytes d (lent_read name.entry flows.entry steps.entry letters.entry qualities.entry clips)) }
-{
-    let named = READ_FRONT_LENGTH + name.len();
-    let front = padding_behind(named);
-    put_header(out, p, d, name, front);
-    let n = flows.len();
-    let start = p + named + front;
-    put_words(out, start, flows);
-    let bases = start + 2 * n;
-    let behind = padding_behind(2 * n + 3 * letters.len());
-    put_bases(out, bases, steps, letters, qualities, behind);
+    // The lengths fit their fields and agree, in a file of so many flows.
+    pub(crate) fn lengths_hold(&self, flows: u64) -> bool
+        ensures { (l : List ℕ) → pick result (ok tt) (refused 9 0) ≡ answer (lengths_check flows (read_of self.now)) l }
+    {
+        name_fits(self.name.len())
+            && flows <= 65535
+            && self.flows.len() as u64 == flows
+            && self.steps.len() == self.letters.len()
+            && self.qualities.len() == self.letters.len()
+            && self.letters.len() <= 0xffff_ffff
+            && clips_fit(self.clips)
+    }
+
+    // The header fields of the read where it starts at place p.
+    pub(crate) fn header_at(&self, p: usize) -> ReadHeader
+        requires lengths_fit { (read_header_size (length self.now.name.now) ≤ 65535) × (length self.now.letters.now ≤ 0xffffffff) }
+        requires fitting_clips { FittingClips self.now.clips }
+        ensures { result ≡ header_for p (read_of self.now) }
+    {
+        let named = READ_FRONT_LENGTH + self.name.len();
+        let size = named + padding_behind(named);
+        ReadHeader {
+            start: p,
+            header_length: size as u16,
+            name_length: self.name.len() as u16,
+            bases: self.letters.len() as u32,
+            quality_left: self.clips.quality_left as u16,
+            quality_right: self.clips.quality_right as u16,
+            adapter_left: self.clips.adapter_left as u16,
+            adapter_right: self.clips.adapter_right as u16,
+        }
+    }
+
+    // Writes the flow steps, the letters, the qualities and the zeros behind them from place p on.
+    fn put_bases(&self, out: &mut [u8], p: usize, zeros: usize)
+        requires { p + length self.now.steps.now + length self.now.letters.now + length self.now.qualities.now + zeros ≤ length out.old }
+        ensures { out.new
+            ≡ put out.old p (self.now.steps.now ++ (self.now.letters.now ++ (self.now.qualities.now ++ replicate zeros 0))) }
+    {
+        copy(out, p, self.steps);
+        let second = p + self.steps.len();
+        copy(out, second, self.letters);
+        let third = second + self.letters.len();
+        copy(out, third, self.qualities);
+        let last = third + self.qualities.len();
+        put_zeros(out, last, zeros);
+    }
+
+    // Writes the read with this header at place p, of which all is known to fit.
+    pub(crate) fn put(&self, out: &mut [u8], p: usize, d: ReadHeader)
+        requires lengths_fit { (length self.now.name.now ≤ 65535) × (length self.now.flows.now ≤ 65535) × (length self.now.letters.now ≤ 0xffffffff)
+            × (length self.now.steps.now ≡ length self.now.letters.now) × (length self.now.qualities.now ≡ length self.now.letters.now) }
+        requires has_room { p + length (read_bytes d (read_of self.now)) ≤ length out.old }
+        ensures { out.new ≡ put out.old p (read_bytes d (read_of self.now)) }
+    {
+        let named = READ_FRONT_LENGTH + self.name.len();
+        let front = padding_behind(named);
+        put_header(out, p, d, self.name, front);
+        let n = self.flows.len();
+        let start = p + named + front;
+        put_words(out, start, self.flows);
+        let bases = start + 2 * n;
+        let behind = padding_behind(2 * n + 3 * self.letters.len());
+        self.put_bases(out, bases, behind);
+    }
 }

@@ -3,21 +3,14 @@
 #![tactic(auto)]
 
 use gtc::lookup::data_part;
-use gtc_records::genotype::{Decoded, Genotype, genotype_of};
+use gtc_records::genotype::{Genotype, genotype_of};
 use gtc_records::transformation::transformation_part;
-use lent_input::read_full;
+use lent_input::{put_part, read_full};
 use std::io;
 use std::io::Write;
 
 fn put<W: Write>(to: &mut W, text: &[u8]) -> io::Result<()> {
     to.write_all(text)
-}
-
-// A part as its length and its bytes.
-fn put_part<W: Write>(to: &mut W, part: &[u8]) -> io::Result<()> {
-    write!(to, "{} ", part.len())?;
-    put(to, part)?;
-    put(to, b"\n")
 }
 
 // The letters of a genotype, A before B.
@@ -43,8 +36,8 @@ fn put_genotype<W: Write>(to: &mut W, g: Genotype) -> io::Result<()> {
 // What a genotype's code means, or the refusal.
 fn put_code<W: Write>(to: &mut W, code: u8) -> io::Result<()> {
     match genotype_of(code) {
-        Decoded::Is(g) => put_genotype(to, g)?,
-        Decoded::Refused(n) => write!(to, "refused {n}")?,
+        Ok(g) => put_genotype(to, g)?,
+        Err(refusal) => write!(to, "refused {refusal}")?,
     }
     put(to, b"\n")
 }

@@ -1,27 +1,26 @@
 // Runs the calls that no C function reaches, on the SFF file on standard input: the parts of a read that are handed back, found and refused.
 #![tactic(auto)]
 
-use lent_input::read_full;
+use lent_input::{put_part, read_full};
 use sff::lookup::read_part;
 use sff_fields::parts::ReadPart;
 use std::io;
 use std::io::Write;
 
-// A part as its length and its bytes.
-fn put_part<W: Write>(to: &mut W, part: &[u8]) -> io::Result<()> {
-    write!(to, "{} ", part.len())?;
-    to.write_all(part)?;
-    to.write_all(b"\n")
-}
-
 // Every part of read k.
 fn put_read<W: Write>(to: &mut W, s: &[u8], k: u64) -> io::Result<()> {
-    put_part(to, read_part(s, k, ReadPart::Name))?;
-    put_part(to, read_part(s, k, ReadPart::Flows))?;
-    put_part(to, read_part(s, k, ReadPart::Steps))?;
-    put_part(to, read_part(s, k, ReadPart::Letters))?;
-    put_part(to, read_part(s, k, ReadPart::Qualities))?;
-    put_part(to, read_part(s, k, ReadPart::Insert))
+    let parts = [
+        ReadPart::Name,
+        ReadPart::Flows,
+        ReadPart::Steps,
+        ReadPart::Letters,
+        ReadPart::Qualities,
+        ReadPart::Insert,
+    ];
+    for which in parts {
+        put_part(to, read_part(s, k, which))?;
+    }
+    Ok(())
 }
 
 // The file has an insert in read 1, an empty one in read 2, a clip above the bases in read 3, and the index behind read 1.
@@ -30,9 +29,8 @@ fn main(rt: HostRuntime) -> io::Result<()> {
     let n = read_full(&mut rt.reader(), &mut buffer)?;
     let s = &buffer[..n];
     let to = &mut io::writer(&rt);
-    put_read(to, s, 0)?;
-    put_read(to, s, 1)?;
-    put_read(to, s, 2)?;
-    put_read(to, s, 3)?;
-    put_read(to, s, 4)
+    for k in 0..5 {
+        put_read(to, s, k)?;
+    }
+    Ok(())
 }

@@ -1,37 +1,25 @@
-// Bytes written into lent bytes. Where there is no room nothing is changed.
+// Bytes written into lent bytes. Where there is no room nothing is changed, so that every call has an answer at every place.
 ghost use Rattle.std.specs.Prelude.{◌≡◌, replicate};
 ghost use Rattle.writing.specs.Put.{put};
 
-// Copies all of v to place p.
+// Copies all of v to place p: a part of another list, or a number's bytes.
 pub fn copy(out: &mut [u8], p: usize, v: &[u8])
     ensures { out.new ≡ put out.old p v.now }
 {
-    if out.len() < v.len() {
+    if out.len() < v.len() || out.len() - v.len() < p {
         return;
     }
-    if out.len() - v.len() < p {
-        return;
-    }
-    let mut i = 0;
-    while i < v.len() {
-        out[p + i] = v[i];
-        i += 1;
-    }
+    let end = p + v.len();
+    out[p..end].copy_from_slice(v);
 }
 
 // Writes n zeros from place p on.
 pub fn put_zeros(out: &mut [u8], p: usize, n: usize)
     ensures { out.new ≡ put out.old p (replicate n 0) }
 {
-    if out.len() < n {
+    if out.len() < n || out.len() - n < p {
         return;
     }
-    if out.len() - n < p {
-        return;
-    }
-    let mut i = 0;
-    while i < n {
-        out[p + i] = 0;
-        i += 1;
-    }
+    let end = p + n;
+    out[p..end].fill(0);
 }

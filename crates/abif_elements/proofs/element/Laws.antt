@@ -1,7 +1,8 @@
 -- Elements, from the answers of their parts.
-use Prim.Native.Nat.{ℕ, ◌+◌, ◌-◌, ◌*◌, ◌^◌, ◌≤◌, ◌<◌}
+use Prim.Native.Nat.{ℕ, ◌+◌, ◌-◌, ◌*◌, ◌≤◌, ◌<◌}
 use mathlib.Core.Path.{◌≡◌, ◌∙◌, ap}
 use mathlib.Core.List.{List}
+use mathlib.Core.Logic.{◌⊎◌, inl, inr}
 use mathlib.Core.Bool.{Bool, true, false, not}
 use lib.IntN.{ℤ, pos}
 use lib.ListN.{length, take}
@@ -9,11 +10,10 @@ use lib.Dec.{eqb}
 use lib.Ieee.{binary32, binary64, of_bits}
 use native.Mathlib.Nat.{mul-suc, mul-le-mul_left}
 use native.Mathlib.Omega.{arith}
-use borrow.Author.Tests.{ne_eqb}
+use borrow.Author.Tests.{le-leb, lt-leb, ne_eqb}
 use Rattle.reading.specs.Choice.{is_number_of}
 use Rattle.reading.specs.Number.{be, signed}
 use Rattle.reading.specs.Check.{ok, refused, answer, holds}
-use Rattle.reading.proofs.Product.{below}
 use Rattle.reading.proofs.Steps.{answer_bind, answer_must, answer_done, answer_need_present}
 use Rattle.contents.specs.Date.{is_date}
 use Rattle.contents.specs.Time.{is_time}
@@ -22,15 +22,16 @@ use Rattle.reading.specs.declared.item.ItemData.{ItemData}
 use Rattle.abif.specs.Entry.{type_of}
 use Rattle.abif_elements.specs.Element.{whole, single, double, date, time, bool, thumb, whole_at, date_at, time_at, value_at, is_listed, element_of}
 
--- the place of an element is a machine's number
-pub place_below : {s w i : ℕ} → s < 0x100000000 → w < 2 ^ 16 → i < 2 ^ 32 → s + w * i < 0x2000000000000
-place_below {s} {w} {i} a b c = omega (arith, below 16 32 {a = w} {b = i} b c)
-
 -- an element lies within the elements
 pub inside : (w i n : ℕ) → 1 ≤ i → i ≤ n → w * (i - 1) + w ≤ w * n
 inside w i n a b =
     let e : w * i ≡ w * (i - 1) + w = ap (λ (k : ℕ). w * k) (omega arith) ∙ mul-suc w (i - 1) in
     omega (arith, mul-le-mul_left w b)
+
+-- an index that is below one or over the count
+pub outside : (i n : ℕ) → (i < 1) ⊎ ((1 ≤ i) × (n < i)) → is_number_of i n ≡ false
+outside i n (inl a) = rw (lt-leb 1 i a)
+outside i n (inr b) = rw (le-leb 1 i b.0, lt-leb i n b.1)
 
 -- the whole number of each type
 module _ (l : List ℕ) (p k : ℕ) where

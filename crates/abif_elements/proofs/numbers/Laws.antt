@@ -4,10 +4,13 @@ use mathlib.Core.Path.{◌≡◌, refl, sym, ◌∙◌, ap}
 use mathlib.Core.List.{List, [], ◌∷◌, ◌++◌}
 use mathlib.Core.Bool.{true, false}
 use native.Mathlib.Nat.{mul-suc, mul-add, mul-le-mul_left}
+use native.Mathlib.Numerals.{add-one}
 use native.Mathlib.Omega.{arith}
 use borrow.Author.Tests.{le-leb, lt-leb}
 use lib.IntN.{ℤ}
 use lib.ListN.{length, take, drop}
+use lib.Seq.{drop-length}
+use Rattle.std.proofs.lemmas.List.{append-nil}
 use Rattle.reading.specs.Choice.{is_number_of}
 use Rattle.reading.specs.Check.{ok, refused, answer, map_answer, holds}
 use Rattle.reading.specs.Bulk.{left_from, fitting}
@@ -17,13 +20,17 @@ use Rattle.reading.proofs.Steps.{answer_bind, answer_must, answer_done, answer_n
 use Rattle.reading.specs.declared.item.ItemData.{ItemData}
 use Rattle.abif.specs.declared.entry.ElementType.TheVariants.{Listed}
 use Rattle.abif.specs.Entry.{type_of}
-use Rattle.abif_elements.specs.Element.{size_of, element_place}
+use Rattle.abif_elements.specs.Element.{whole_at, size_of, element_place}
 use Rattle.abif_elements.specs.Numbers.{is_whole, wholes_at, numbers_of_item}
 
 pub length_wholes : (k w : ℕ) (l : List ℕ) (p n : ℕ) → length (wholes_at k w l p n) ≡ n
 unfolding wholes_at
 length_wholes k w l p zero = refl
 length_wholes k w l p (suc n) = ap suc (length_wholes k w l (p + w) n)
+
+-- what fills the whole output leaves nothing of it
+pub all_wholes : (k w : ℕ) (l : List ℕ) (p : ℕ) (out : List ℤ) → wholes_at k w l p (length out) ++ drop (length out) out ≡ wholes_at k w l p (length out)
+all_wholes k w l p out = rw (drop-length out) (append-nil _)
 
 -- the numbers of the item q from number `first` on
 module _ (s : List ℕ) (q : ItemData) (first room : ℕ) where
@@ -52,12 +59,12 @@ of_copied s q first out out' w p n a e m t f g h c =
     let k : n ≡ fitting 1 (left_from q.count first) (length out) = omega arith in
     (rw (r, k) (ap ok (sym (length_wholes _ _ _ _ _))), c ∙ rw (r, a, e, k, length_wholes))
 
--- the bytes of the numbers that are left, before and after one of them
-pub next_place : (w n i : ℕ) → i < n → w * (n - i) ≡ w * (n - (i + 1)) + w
-next_place w n i h = ap (λ (k : ℕ). w * k) (omega arith) ∙ mul-suc w (n - (i + 1))
-
-pub first_place : (w n : ℕ) → w * (n - 0) ≡ w * n
-first_place w n = ap (λ (k : ℕ). w * k) (omega arith)
+-- the numbers from number i on
+pub next_whole : (k w : ℕ) (l : List ℕ) (p i m : ℕ) → wholes_at k w l (p + w * i) (suc m) ≡ whole_at k l (p + w * i) ∷ wholes_at k w l (p + w * (i + 1)) m
+unfolding wholes_at
+next_whole k w l p i m =
+    let e : p + w * i + w ≡ p + w * (i + 1) = rw (add-one i, mul-suc w i) (omega arith) in
+    ap (λ (q : ℕ). whole_at k l (p + w * i) ∷ wholes_at k w l q m) e
 
 -- m numbers from number `first` on end within an item of n
 pub last_place : (w first m n : ℕ) → first - 1 + m ≤ n → w * (first - 1) + w * m ≤ w * n

@@ -9,7 +9,8 @@ use lib.Dec.{eqb}
 use borrow.Author.Tests.{eq-eqb, ne_eqb}
 use Rattle.reading.specs.Choice.{pick}
 use Rattle.reading.specs.Check.{ok, refused, answer, holds}
-use Rattle.reading.specs.Part.{Span, bytes_at}
+use Rattle.reading.specs.declared.part.Span.{Span}
+use Rattle.reading.specs.Part.{bytes_at}
 use Rattle.reading.proofs.Steps.{answer_bind, answer_must, answer_done, answer_need_present}
 use Rattle.reading.proofs.Passed.{bind_ok, done_ok, must_ok, ok_inj}
 use Rattle.reading.proofs.Fold.{window_length}

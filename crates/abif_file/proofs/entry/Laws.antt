@@ -1,11 +1,13 @@
 -- The raw entries of the directory, from the answers of their parts.
-use Prim.Native.Nat.{ℕ, ◌+◌, ◌-◌, ◌*◌, ◌≤◌, ◌<◌}
+use Prim.Native.Nat.{ℕ, ◌+◌, ◌-◌, ◌*◌, ◌≤◌}
 use mathlib.Core.Path.{◌≡◌}
 use mathlib.Core.List.{List}
+use mathlib.Core.Bool.{false}
+use Rattle.reading.specs.Choice.{is_number_of}
 use native.Mathlib.Omega.{arith}
 use lib.ListN.{take, drop}
 use Rattle.reading.proofs.Width.{be_in_part, be_front}
-use borrow.Author.Tests.{le-leb, lt-leb}
+use borrow.Author.Tests.{le-leb}
 use Rattle.reading.specs.Check.{ok, refused, answer, holds}
 use Rattle.reading.proofs.Steps.{answer_bind, answer_must, answer_done}
 use Rattle.abif.specs.Entry.{entry_of}
@@ -15,18 +17,13 @@ use Rattle.abif.proofs.directory.Laws.{opened_at}
 
 module _ (s : List ℕ) (i : ℕ) where
   module _ (p n : ℕ) (h : answer opening s ≡ ok (p, n)) where
-    pub entry_before : i < 1 → refused 7 0 ≡ answer (entry_reading i) s
+    pub entry_none : is_number_of i n ≡ false → refused 7 0 ≡ answer (entry_reading i) s
     unfolding entry_reading holds
-    entry_before f = simp (answer_bind, answer_must, (opened_at s p n h).1, lt-leb 1 i f)
+    entry_none f = simp (answer_bind, answer_must, (opened_at s p n h).1, f)
 
-    module _ (f : 1 ≤ i) where
-      pub entry_past : n < i → refused 7 0 ≡ answer (entry_reading i) s
-      unfolding entry_reading holds
-      entry_past g = simp (answer_bind, answer_must, (opened_at s p n h).1, le-leb 1 i f, lt-leb i n g)
-
-      pub entry_there : i ≤ n → ok (raw_entry (take (p + 28 * n) s) (p + 28 * (i - 1))) ≡ answer (entry_reading i) s
-      unfolding entry_reading holds
-      entry_there g = simp (answer_bind, answer_must, answer_done, (opened_at s p n h).1, le-leb 1 i f, le-leb i n g)
+    pub entry_there : 1 ≤ i → i ≤ n → ok (raw_entry (take (p + 28 * n) s) (p + 28 * (i - 1))) ≡ answer (entry_reading i) s
+    unfolding entry_reading holds
+    entry_there f g = simp (answer_bind, answer_must, answer_done, (opened_at s p n h).1, le-leb 1 i f, le-leb i n g)
 
 -- an entry is that of the 28 bytes that it fills, whose number the code computes as k
 pub raw_part : (h : List ℕ) (p k : ℕ) → k ≡ 28 → raw_entry (take k (drop p h)) 0 ≡ raw_entry h p

@@ -1,19 +1,19 @@
 -- The calls of an opened file, from the answers of their parts.
 use Prim.Native.Nat.{ℕ}
-use mathlib.Core.Path.{◌≡◌, refl, sym, ◌∙◌, ap}
+use mathlib.Core.Path.{◌≡◌, refl, sym}
 use mathlib.Core.List.{List}
 use mathlib.Core.Bool.{Bool, true, false}
 use lib.Dec.{eqb}
 use borrow.Author.Tests.{eq-eqb, ne_eqb, eqb-true, eqb-false}
 use Rattle.reading.specs.Check.{Check, ok, refused, answer, holds}
+use Rattle.reading.specs.declared.refusal.Refusal.{Refusal}
+use Rattle.reading.specs.Refusal.{number}
+use Rattle.reading.proofs.Results.{answer_refused, answer_ok}
 use Rattle.reading.proofs.Steps.{answer_bind, answer_must}
 use Rattle.reading.proofs.Passed.{bind_ok, map_refused, bind_refused, bind_answered}
 use Rattle.abif.specs.Directory.{directory, opening}
 use Rattle.abif.proofs.directory.Laws.{opened_at}
-use Rattle.abif_file.specs.declared.opened.Reopened.{Reopened}
-use Rattle.abif_file.specs.declared.opened.Reopened.TheVariants.{Same, Refused}
 use Rattle.abif_file.specs.Opened.{same_directory, of_opened}
-use Rattle.abif_file.specs.Answers.{answer_of_reopened}
 
 -- place p and count n against those that opening gives
 module _ (s : List ℕ) (p n x y : ℕ) (h : answer opening s ≡ ok (x, y)) where
@@ -31,14 +31,14 @@ module _ (s : List ℕ) (p n x y : ℕ) (h : answer opening s ≡ ok (x, y)) whe
     same_both f = simp (answer_bind, answer_must, (opened_at s x y h).1, eq-eqb p x e, eq-eqb n y f)
 
 -- a later call t: refused where the place and count are, else what t answers
-module _ {A : Type 0} (p n : ℕ) (t : Check A) (s : List ℕ) (r : Reopened) (h : answer_of_reopened r ≡ answer (same_directory p n) s) where
-  pub later_refused : (k : ℕ) → r ≡ Refused k → refused k 0 ≡ answer (of_opened p n t) s
+module _ {A : Type 0} (p n : ℕ) (t : Check A) (s : List ℕ) where
+  pub later_refused : (r : Refusal) → refused (number r) 0 ≡ answer (same_directory p n) s → refused (number r) 0 ≡ answer (of_opened p n t) s
   unfolding of_opened
-  later_refused k e = bind_refused (same_directory p n) (λ _. t) s k 0 (sym h ∙ ap answer_of_reopened e)
+  later_refused r h = answer_refused (same_directory p n) s (λ _. t) r 0 h
 
-  pub later_same : r ≡ Same → answer t s ≡ answer (of_opened p n t) s
+  pub later_same : ok tt ≡ answer (same_directory p n) s → answer t s ≡ answer (of_opened p n t) s
   unfolding of_opened
-  later_same e = bind_answered (same_directory p n) (λ _. t) s tt (sym h ∙ ap answer_of_reopened e)
+  later_same h = answer_ok (same_directory p n) s (λ _. t) tt h
 
 -- a later call that answers a value is the call's own
 pub later_passed : {A : Type 0} (p n : ℕ) (t : Check A) (s : List ℕ) (v : A) → answer (of_opened p n t) s ≡ ok v → answer t s ≡ ok v

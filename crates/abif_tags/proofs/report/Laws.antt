@@ -1,103 +1,146 @@
 -- The report, step by step.
-use Prim.Native.Nat.{ℕ, zero, suc, ◌+◌, ◌*◌, ◌≤◌, ◌<◌}
+use Prim.Native.Nat.{ℕ, suc, ◌+◌, ◌*◌, ◌≤◌, ◌<◌}
 use mathlib.Core.Path.{◌≡◌, refl, sym, ◌∙◌, ap}
 use mathlib.Core.List.{List, [], ◌∷◌, ◌++◌, map, append_assoc, append-nil}
-use mathlib.Core.Bool.{true, false}
+use mathlib.Core.Bool.{Bool, true, false, not}
+use denote.Enum.Bare.{sameb}
+use Rattle.abif_tags.specs.contracts.table.Presence.{the_type}
+use Rattle.abif_tags.specs.declared.table.Presence.{Presence}
+use Rattle.abif_tags.specs.declared.table.Presence.TheVariants.{Absent, Required, Optional}
+use lib.Dec.{ltb}
+use Rattle.reading.specs.Choice.{pick}
 use native.Mathlib.Omega.{arith}
 use lib.IntN.{ℤ, pos}
-use lib.ListN.{length, get_or, take, drop, set, length-append, drop_of_length-le, take-append-drop, get_or-map}
+use lib.ListN.{length, get_or, take, drop, length-append, drop_of_length-le, take-append-drop, get_or-map, length-map}
 use lib.Seq.{drop-cons, drop-drop, sets, sets-eq, length-sets, drop_at, length-take-le}
-use borrow.Author.Tests.{lt-ltb, le-ltb}
 use Rattle.reading.proofs.Fill.{front_sets}
 use Rattle.abif.specs.declared.tag.Tag.{Tag}
-use Rattle.abif.specs.Tag.{tag_below}
+use Rattle.abif.specs.Tag.{tag_of, tag_below}
+use Rattle.abif.specs.declared.entry.Entry.{Entry}
 use Rattle.abif.specs.Entry.{entry_of}
 use Rattle.abif_tags.specs.declared.table.Row.{Row}
-use Rattle.abif_tags.specs.Table.{table, no_row, row_in, row_at, row_for, is_required, agrees}
+use Rattle.abif_tags.specs.Table.{table, row_count, no_row, row_in, row_at, row_for, is_required, agrees}
 use Rattle.abif_tags.specs.Order.{tag_at}
-use Rattle.abif_tags.specs.Report.{Finding, missing, of_entry, of_entries, up_to_row, side_by_side, finding_numbers}
-use Rattle.abif_tags.specs.Private.{told, left}
+use Rattle.abif_tags.specs.Report.{Finding, missing, other_type, not_in_profile, of_entry, of_entries, up_to_row, side_by_side, finding_numbers}
+use Rattle.std.proofs.Common.{Ordering, Less, Equal, Greater, is_lt, is_gt}
+use Rattle.abif_tags.proofs.TagCmp.{tag_cmp, is_below, is_above}
+use Rattle.abif_tags.specs.declared.order.Tagged.{Tagged}
+use Rattle.abif_tags.specs.Private.{row_if}
+use Rattle.std.specs.Prelude.{Option, Some, None}
 
 -- what is found of an entry, from the row that stands for its tag
-module _ (profile : ℕ) (bytes : List ℕ) (place i k : ℕ) (tag : Tag) (et : tag ≡ tag_at bytes place i) (ek : k ≡ row_for profile tag) where
-  row_is : row_for profile (tag_at bytes place i) ≡ k
-  row_is = ap (row_for profile) (sym et) ∙ sym ek
+module _ (profile : ℕ) (entry : Entry) where
+  abbrev pub found : Option Row → List Finding
+  found None = not_in_profile (tag_of entry) ∷ []
+  found (Some row) = pick (agrees row.published entry.element_type entry.element_count) [] (other_type (tag_of entry) ∷ [])
 
-  pub of_none : k ≡ 112 → told tag 3 ≡ of_entry profile (entry_of bytes (place + 28 * i))
-  unfolding of_entry tag_at
-  of_none h = rw et (simp (row_is, le-ltb k 112 (omega arith)))
+  pub found_is : (o : Option Row) (tag : Tag) → tag ≡ tag_of entry → o ≡ row_if profile (row_for profile tag) → found o ≡ of_entry profile entry
+  unfolding of_entry
+  found_is o tag t e = ap found (e ∙ ap (λ (x : Tag). row_if profile (row_for profile x)) t) ∙ go (ltb k row_count)
+    where
+      k : ℕ
+      k = row_for profile (tag_of entry)
 
-  module _ (h : k < 112) where
-    pub of_same : agrees (row_at profile k).published (entry_of bytes (place + 28 * i)).element_type (entry_of bytes (place + 28 * i)).element_count ≡ true → told tag 0 ≡ of_entry profile (entry_of bytes (place + 28 * i))
-    unfolding of_entry tag_at
-    of_same e = simp (row_is, lt-ltb k 112 h, e)
+      go : (t : Bool) → found (pick t (Some (row_at profile k)) None) ≡ pick t (pick (agrees (row_at profile k).published entry.element_type entry.element_count) [] (other_type (tag_of entry) ∷ [])) (not_in_profile (tag_of entry) ∷ [])
+      go true = refl
+      go false = refl
 
-    pub of_other : agrees (row_at profile k).published (entry_of bytes (place + 28 * i)).element_type (entry_of bytes (place + 28 * i)).element_count ≡ false → told tag 2 ≡ of_entry profile (entry_of bytes (place + 28 * i))
-    unfolding of_entry tag_at
-    of_other e = rw et (simp (row_is, lt-ltb k 112 h, e))
+  module _ (row : Row) (tag : Tag) (t : tag ≡ tag_of entry) (e : Some row ≡ row_if profile (row_for profile tag)) where
+    pub found_same : agrees row.published entry.element_type entry.element_count ≡ true → [] ≡ of_entry profile entry
+    found_same a = sym (ap (λ (b : Bool). pick b [] (other_type (tag_of entry) ∷ [])) a) ∙ found_is (Some row) tag t e
+
+    pub found_other : agrees row.published entry.element_type entry.element_count ≡ false → other_type tag ∷ [] ≡ of_entry profile entry
+    found_other a = ap (λ (x : Tag). other_type x ∷ []) t ∙ sym (ap (λ (b : Bool). pick b [] (other_type (tag_of entry) ∷ [])) a) ∙ found_is (Some row) tag t e
+
+-- what the code's comparison of a presence tells
+pub required_by : (p : Presence) (b : Bool) → b ≡ not (sameb the_type p Required) → is_required p ≡ not b
+required_by Absent b h = sym (ap not h)
+required_by Required b h = sym (ap not h)
+required_by Optional b h = sym (ap not h)
 
 -- the entries and the rows that are left
-module _ (profile : ℕ) (bytes : List ℕ) (place : ℕ) (order : List ℕ) where
-  row_count : length (map (row_in profile) table) ≡ 112
+module _ (profile : ℕ) (bytes : List ℕ) (place : ℕ) (entries : List Tagged) where
+  abbrev order : List ℕ
+  order = map (λ t. t.entry) entries
+
+  abbrev at : ℕ → Tagged
+  at i = get_or entries i (record { tag = record { name = 0; number = pos 0 }; entry = 0 })
+
+  order_length : length order ≡ length entries
+  order_length = simp length-map
+
+  abbrev Left : ℕ → ℕ → List Finding
+  Left i j = side_by_side profile bytes place (drop j (map (row_in profile) table)) (drop i order)
+
+  rows_length : length (map (row_in profile) table) ≡ 112
   unfolding table
-  row_count = refl
+  rows_length = refl
 
   row_here : (j : ℕ) → j < 112 → drop j (map (row_in profile) table) ≡ row_at profile j ∷ drop (j + 1) (map (row_in profile) table)
   unfolding row_at
   row_here j h =
       let e : suc j ≡ j + 1 = omega arith in
-      drop-cons (map (row_in profile) table) j (row_in profile no_row) (omega (arith, row_count))
+      drop-cons (map (row_in profile) table) j (row_in profile no_row) (omega (arith, rows_length))
       ∙ ap (λ (r : Row). r ∷ drop (suc j) (map (row_in profile) table)) (get_or-map (row_in profile) table j no_row)
       ∙ ap (λ (k : ℕ). row_in profile (get_or table j no_row) ∷ drop k (map (row_in profile) table)) e
 
   no_row_lem : (j : ℕ) → 112 ≤ j → drop j (map (row_in profile) table) ≡ []
-  no_row_lem j h = drop_of_length-le (map (row_in profile) table) {i = j} (omega (arith, row_count))
+  no_row_lem j h = drop_of_length-le (map (row_in profile) table) {i = j} (omega (arith, rows_length))
 
-  entry_here : (i : ℕ) → i < length order → drop i order ≡ get_or order i 0 ∷ drop (i + 1) order
+  entry_here : (i : ℕ) → i < length entries → drop i order ≡ (at i).entry ∷ drop (i + 1) order
   entry_here i h =
       let e : suc i ≡ i + 1 = omega arith in
-      drop-cons order i 0 h ∙ ap (λ (k : ℕ). get_or order i 0 ∷ drop k order) e
+      drop-cons order i 0 (omega (arith, order_length)) ∙ λ k. get_or-map (λ (t : Tagged). t.entry) entries i (record { tag = record { name = 0; number = pos 0 }; entry = 0 }) k ∷ drop (e k) order
 
-  no_entry : (i : ℕ) → length order ≤ i → drop i order ≡ []
-  no_entry i h = drop_of_length-le order h
+  no_entry : (i : ℕ) → length entries ≤ i → drop i order ≡ []
+  no_entry i h = drop_of_length-le order {i = i} (omega (arith, order_length))
 
   abbrev Of : ℕ → List Finding
-  Of i = of_entry profile (entry_of bytes (place + 28 * get_or order i 0))
+  Of i = of_entry profile (entry_of bytes (place + 28 * (at i).entry))
 
   -- no row is left
-  pub left_entry : (i j : ℕ) → i < length order → 112 ≤ j → left profile bytes place order i j ≡ Of i ++ left profile bytes place order (i + 1) j
+  pub left_entry : (i j : ℕ) → i < length entries → 112 ≤ j → Left i j ≡ Of i ++ Left (i + 1) j
   unfolding side_by_side of_entries
   left_entry i j h k = simp (no_row_lem j k, entry_here i h)
 
-  pub left_none : (i j : ℕ) → length order ≤ i → 112 ≤ j → left profile bytes place order i j ≡ []
+  pub left_none : (i j : ℕ) → length entries ≤ i → 112 ≤ j → Left i j ≡ []
   unfolding side_by_side of_entries
   left_none i j h k = simp (no_row_lem j k, no_entry i h)
 
   module _ (i j : ℕ) (h : j < 112) (r : Row) (e : r ≡ row_at profile j) where
     -- the row's first tag is not required
-    pub left_row : is_required r.presence ≡ false → left profile bytes place order i j ≡ left profile bytes place order i (j + 1)
+    pub left_row : is_required r.presence ≡ false → Left i j ≡ Left i (j + 1)
     unfolding side_by_side
     left_row q = rw (row_here j h, ← e, q)
 
     module _ (q : is_required r.presence ≡ true) where
       -- it is, and no entry is left
-      pub left_missing : length order ≤ i → left profile bytes place order i j ≡ missing r.first ∷ left profile bytes place order i (j + 1)
+      pub left_missing : length entries ≤ i → Left i j ≡ missing r.first ∷ Left i (j + 1)
       unfolding side_by_side up_to_row
       left_missing k = rw (row_here j h, ← e, q, no_entry i k)
 
-      module _ (k : i < length order) where
-        pub left_below : tag_below (tag_at bytes place (get_or order i 0)) r.first ≡ true → left profile bytes place order i j ≡ Of i ++ left profile bytes place order (i + 1) j
+      module _ (k : i < length entries) (ea : (at i).tag ≡ tag_at bytes place (at i).entry) where
+        under : Less ≡ tag_cmp (at i).tag r.first → tag_below (tag_at bytes place (at i).entry) r.first ≡ true
+        under o = ap (λ (x : Tag). tag_below x r.first) (sym ea) ∙ sym (is_below (at i).tag r.first) ∙ ap is_lt (sym o)
+
+        level : (o : Ordering) → is_lt o ≡ false → o ≡ tag_cmp (at i).tag r.first → tag_below (tag_at bytes place (at i).entry) r.first ≡ false
+        level o f q = ap (λ (x : Tag). tag_below x r.first) (sym ea) ∙ sym (is_below (at i).tag r.first) ∙ ap is_lt (sym q) ∙ f
+
+        over : (o : Ordering) → o ≡ tag_cmp (at i).tag r.first → tag_below r.first (tag_at bytes place (at i).entry) ≡ is_gt o
+        over o q = ap (tag_below r.first) (sym ea) ∙ sym (is_above (at i).tag r.first) ∙ ap is_gt (sym q)
+
+        -- the entry's tag is below the row's first, the same, or above it
+        pub left_below : Less ≡ tag_cmp (at i).tag r.first → Left i j ≡ Of i ++ Left (i + 1) j
         unfolding side_by_side up_to_row
-        left_below b = rw (row_here j h, ← e, q, entry_here i k, b)
+        left_below o = rw (row_here j h, ← e, q, entry_here i k, under o)
 
-        module _ (b : tag_below (tag_at bytes place (get_or order i 0)) r.first ≡ false) where
-          pub left_above : tag_below r.first (tag_at bytes place (get_or order i 0)) ≡ true → left profile bytes place order i j ≡ missing r.first ∷ left profile bytes place order i (j + 1)
-          unfolding side_by_side up_to_row
-          left_above a = rw (row_here j h, ← e, q, entry_here i k, b, a)
+        pub left_both : Equal ≡ tag_cmp (at i).tag r.first → Left i j ≡ Of i ++ Left (i + 1) (j + 1)
+        unfolding side_by_side up_to_row
+        left_both o = rw (row_here j h, ← e, q, entry_here i k, level Equal refl o, over Equal o)
 
-          pub left_both : tag_below r.first (tag_at bytes place (get_or order i 0)) ≡ false → left profile bytes place order i j ≡ Of i ++ left profile bytes place order (i + 1) (j + 1)
-          unfolding side_by_side up_to_row
-          left_both a = rw (row_here j h, ← e, q, entry_here i k, b, a)
+        pub left_above : Greater ≡ tag_cmp (at i).tag r.first → Left i j ≡ missing r.first ∷ Left i (j + 1)
+        unfolding side_by_side up_to_row
+        left_above o = rw (row_here j h, ← e, q, entry_here i k, level Greater refl o, over Greater o)
 
 -- three numbers for each finding
 numbers_append : (a b : List Finding) → finding_numbers (a ++ b) ≡ finding_numbers a ++ finding_numbers b
@@ -108,31 +151,12 @@ pub numbers_length : (a : List Finding) → length (finding_numbers a) ≡ 3 * l
 numbers_length [] = refl
 numbers_length (f ∷ a) = ap (λ (n : ℕ). suc (suc (suc n))) (numbers_length a) ∙ omega arith
 
--- a finding's numbers, as the code writes them
-pub told_numbers : (out : List ℤ) (m : ℕ) (tag : Tag) (kind : ℕ) → (kind ≡ 0 → ⊥) → set (set (set out (3 * m) (pos tag.name)) (3 * m + 1) tag.number) (3 * m + 2) (pos kind) ≡ sets out (3 * m) (finding_numbers (told tag kind))
-told_numbers out m tag zero h = absurd (h refl)
-told_numbers out m tag (suc k) h =
-    let a : 3 * m + 1 ≡ suc (3 * m) = omega arith in
-    let b : 3 * m + 2 ≡ suc (suc (3 * m)) = omega arith in
-    rw (a, b)
-
-pub told_one : (tag : Tag) (kind : ℕ) → (kind ≡ 0 → ⊥) → length (told tag kind) ≡ 1
-told_one tag zero h = absurd (h refl)
-told_one tag (suc k) h = refl
-
-pub told_few : (tag : Tag) (kind : ℕ) → length (told tag kind) ≤ 1
-told_few tag zero = omega arith
-told_few tag (suc k) = omega arith
-
 -- A report is written up to m findings, and these are left.
 pub record Written (whole rest : List Finding) (m : ℕ) (o out : List ℤ) : Type 0 where
   pub front : take (3 * m) out ++ finding_numbers rest ≡ finding_numbers whole
   pub behind : drop (3 * m) out ≡ drop (3 * m) o
   pub count : m + length rest ≡ length whole
   pub same : length out ≡ length o
-
-pub written_start : (whole : List Finding) (o : List ℤ) → Written whole whole 0 o o
-written_start whole o = record { front = refl; behind = refl; count = omega arith; same = refl }
 
 module _ (whole rest : List Finding) (m : ℕ) (o out : List ℤ) (w : Written whole rest m o out) where
   -- the next findings are written

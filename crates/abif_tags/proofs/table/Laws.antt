@@ -1,73 +1,40 @@
--- The table's numbers, and the search for a row.
-use Prim.Native.Nat.{ℕ, zero, suc, ◌+◌, ◌/◌, ◌≤◌, ◌<◌}
+-- The table's rows, and the search for one.
+use Prim.Native.Nat.{ℕ, ◌+◌, ◌≤◌, ◌<◌}
 use mathlib.Core.Path.{◌≡◌, refl, sym, ◌∙◌, ap, subst}
 use mathlib.Core.List.{List, [], ◌∷◌, map}
 use mathlib.Core.Bool.{Bool, true, false, not}
+use Rattle.std.specs.Prelude.{Some, None}
 use native.Mathlib.Omega.{arith}
 use lib.Dec.{leb, ltb, eqb}
 use lib.IntN.{pos}
 use lib.Signed.{lt_z, le_z}
-use lib.ListN.{get_or, get_or-map}
+use lib.ListN.{length, get_or, get_or-map, length-map}
+use Rattle.std.proofs.lemmas.List.{get_or_default}
+use Rattle.std.specs.List.Sorted.{IsPartitionedBy, IsPartitionPoint}
 use borrow.Author.Tests.{ltb-true, eqb-true, leb-true, leb-false, ltb-false, eqb-false, lt-ltb, le-leb, lt-leb, ne_eqb}
-use Rattle.reading.specs.Choice.{pick, is_number_of}
+use Rattle.reading.specs.Choice.{pick}
 use Rattle.reading.proofs.Entries.{first_is, first_none}
+use Rattle.reading.proofs.Tests.{no, span}
 use Rattle.abif.specs.declared.tag.Tag.{Tag}
 use Rattle.abif.specs.Tag.{tag_below}
-use Rattle.reading.proofs.Tests.{no, span, number_within}
-use Rattle.reading.proofs.Match.{InNone}
 use Rattle.abif_tags.specs.declared.table.Row.{Row}
 use Rattle.abif_tags.specs.declared.table.Presence.{Presence}
+use Rattle.abif_tags.specs.declared.table.PrintedRow.{PrintedRow}
+use Rattle.abif_tags.specs.declared.table.PrintedRow.TheVariants.{One}
+use Rattle.abif_tags.specs.declared.table.Published.TheVariants.{Of}
+use Rattle.abif_tags.specs.declared.table.TheConstants.{TABLE}
 use Rattle.abif_tags.specs.Table.{TableRow, table, no_row, row_in, row_at, is_there, same_tag, stands_for, stands_at, row_for}
-use Rattle.abif_tags.specs.Private.{packed, packed_table, published_of, presence_of, unpacked, Rising, Parted, name_reached}
-use Rattle.abif_tags.proofs.Rows.{every_at, pairs_at}
+use Rattle.abif_tags.specs.Private.{as_defined, Parted, name_reached, row_if}
+use Rattle.abif_tags.proofs.Rows.{pairs_at}
 
--- a number that is none of three is past them
-three_past : (p k : ℕ) → k ≤ p → (p ≡ k → ⊥) → (p ≡ k + 1 → ⊥) → (p ≡ k + 2 → ⊥) → k + 3 ≤ p
-three_past p k h a b c = omega arith
+-- the code's table is the definition's
+pub table_is : map as_defined TABLE ≡ table
+unfolding table
+table_is = refl
 
-pub last_profile : (p : ℕ) → is_number_of p 8 ≡ true → InNone ((7 ∷ []) ∷ (6 ∷ []) ∷ (5 ∷ []) ∷ (4 ∷ []) ∷ (3 ∷ []) ∷ (2 ∷ []) ∷ (1 ∷ []) ∷ []) p → p ≡ 8
-last_profile p w n =
-    let u = number_within p 8 w in
-    let a = three_past p 1 u.0 n.0.0.0.0.0.0.1 n.0.0.0.0.0.1 n.0.0.0.0.1 in
-    let b = three_past p 4 a n.0.0.0.1 n.0.0.1 n.0.1 in
-    let c : p ≡ 7 → ⊥ = n.1 in
-    omega (arith, u.1)
-
--- what holds of each profile
-each_profile : (P : ℕ → Type 0) → P 1 → P 2 → P 3 → P 4 → P 5 → P 6 → P 7 → P 8 → (p : ℕ) → is_number_of p 8 ≡ true → P p
-each_profile P a b c d e f g h zero w = no w
-each_profile P a b c d e f g h (suc zero) w = a
-each_profile P a b c d e f g h (suc (suc zero)) w = b
-each_profile P a b c d e f g h (suc (suc (suc zero))) w = c
-each_profile P a b c d e f g h (suc (suc (suc (suc zero)))) w = d
-each_profile P a b c d e f g h (suc (suc (suc (suc (suc zero))))) w = e
-each_profile P a b c d e f g h (suc (suc (suc (suc (suc (suc zero)))))) w = f
-each_profile P a b c d e f g h (suc (suc (suc (suc (suc (suc (suc zero))))))) w = g
-each_profile P a b c d e f g h (suc (suc (suc (suc (suc (suc (suc (suc zero)))))))) w = h
-each_profile P a b c d e f g h (suc (suc (suc (suc (suc (suc (suc (suc (suc n))))))))) w = absurd (omega (arith, (number_within (suc (suc (suc (suc (suc (suc (suc (suc (suc n))))))))) 8 w).1))
-
-packed_at : (k : ℕ) → get_or packed_table k 0 ≡ packed (get_or table k no_row)
-unfolding packed
-packed_at k = get_or-map packed table k no_row
-
--- a row's number says what the row does
-Decodes : ℕ → Type 0
-Decodes p = (map (λ (r : TableRow). unpacked (packed r) p) table ≡ map (row_in p) table) × (unpacked (packed no_row) p ≡ row_in p no_row)
-
-decodes : (p : ℕ) → is_number_of p 8 ≡ true → Decodes p
-unfolding Decodes table packed unpacked published_of presence_of row_in
-decodes p w = each_profile Decodes (refl, refl) (refl, refl) (refl, refl) (refl, refl) (refl, refl) (refl, refl) (refl, refl) (refl, refl) p w
-
-pub row_decoded : (p k : ℕ) → is_number_of p 8 ≡ true → unpacked (get_or packed_table k 0) p ≡ row_at p k
-unfolding row_at Decodes
-row_decoded p k w =
-    let d = decodes p w in
-    let f : TableRow → Row = λ r. unpacked (packed r) p in
-    ap (λ (v : ℕ). unpacked v p) (packed_at k)
-    ∙ sym (get_or-map f table k no_row)
-    ∙ ap (λ (l : List Row). get_or l k (f no_row)) d.0
-    ∙ ap (get_or (map (row_in p) table) k) d.1
-    ∙ get_or-map (row_in p) table k no_row
+row_count_is : length table ≡ 112
+unfolding table
+row_count_is = refl
 
 -- The rule of the table, of a row and one behind it: their names ascend; or the names are the same, and then the numbers ascend and neither row is 1-N, or no
 -- profile has both.
@@ -100,36 +67,35 @@ names_ascend a b h = go (eqb a.first.name b.first.name) refl h
 pub name_up : (j k : ℕ) → j ≤ k → k < 112 → (get_or table j no_row).first.name ≤ (get_or table k no_row).first.name
 name_up j k h l = span (λ (m : ℕ). m < 112 → (get_or table j no_row).first.name ≤ (get_or table m no_row).first.name) j k h (λ _. omega arith) (λ u v. names_ascend (get_or table j no_row) (get_or table k no_row) (rule j k (omega arith) v)) l
 
-pub names_rise : (name : ℕ) → Rising (name_reached name) 112
-unfolding name_reached
-names_rise name a b h l e =
-    let u = leb-true name (get_or table a no_row).first.name e in
-    le-leb name (get_or table b no_row).first.name (omega (arith, name_up a b h l))
+-- rows as the code has them
+module _ (t : List PrintedRow) (e : map as_defined t ≡ table) where
+  printed_count : length t ≡ 112
+  printed_count = omega (arith, simp length-map at (ap length e), row_count_is)
 
--- a name is four bytes
-fits_name : TableRow → Bool
-fits_name r = ltb r.first.name 0x100000000
+  pub row_is : (k : ℕ) → k < 112 → (d : PrintedRow) → as_defined (get_or t k d) ≡ get_or table k no_row
+  row_is k h d =
+      sym (get_or-map as_defined t k d) ∙ ap (λ (l : List TableRow). get_or l k (as_defined d)) e ∙ get_or_default table k (as_defined d) no_row (omega (arith, row_count_is))
 
-pub name_fits : (k : ℕ) → (get_or table k no_row).first.name < 0x100000000
-unfolding table fits_name
-name_fits k = ltb-true (get_or table k no_row).first.name 0x100000000 (every_at fits_name table refl no_row refl k)
+  name_is : (k : ℕ) → k < 112 → (d : PrintedRow) → (as_defined (get_or t k d)).first.name ≡ (get_or table k no_row).first.name
+  name_is k h d = ap (λ (r : TableRow). r.first.name) (row_is k h d)
 
-pub name_decoded : (k : ℕ) → get_or packed_table k 0 / 0x100000000 ≡ (get_or table k no_row).first.name
-unfolding row_at unpacked row_in
-name_decoded k = ap (λ (r : Row). r.first.name) (row_decoded 1 k refl)
+  -- the names below one stand in front
+  pub names_parted : (name : ℕ) → IsPartitionedBy (λ row. ltb (as_defined row).first.name name) t
+  names_parted name i j d h l w =
+      let l' : j < 112 = omega (arith, printed_count) in
+      let n = ltb-true (as_defined (get_or t j d)).first.name name w in
+      lt-ltb (as_defined (get_or t i d)).first.name name (omega (arith, n, name_up i j h l', name_is i (omega arith) d, name_is j l' d))
 
--- what the code's comparison of names tells
-module _ (l : List ℕ) (e : l ≡ packed_table) (name k : ℕ) where
-  name_is : get_or l k 0 / 0x100000000 ≡ (get_or table k no_row).first.name
-  name_is = ap (λ (x : List ℕ). get_or x k 0 / 0x100000000) e ∙ name_decoded k
-
-  pub name_reached_lem : name ≤ get_or l k 0 / 0x100000000 → name_reached name k ≡ true
+  -- where they end
+  pub names_end : (name r : ℕ) → r ≤ length t → IsPartitionPoint (λ row. ltb (as_defined row).first.name name ≡ true) (λ row. ltb (as_defined row).first.name name ≡ false) t r → Parted (name_reached name) 112 r
   unfolding name_reached
-  name_reached_lem h = le-leb name (get_or table k no_row).first.name (omega (arith, name_is))
-
-  pub name_below : get_or l k 0 / 0x100000000 < name → name_reached name k ≡ false
-  unfolding name_reached
-  name_below h = lt-leb name (get_or table k no_row).first.name (omega (arith, name_is))
+  names_end name r h p =
+      let d : PrintedRow = One [] (pos 0) (Of 0) [] in
+      record {
+        within = omega (arith, printed_count);
+        below = λ k u. lt-leb name (get_or table k no_row).first.name (omega (arith, ltb-true (as_defined (get_or t k d)).first.name name (p.0 k d (omega arith) u), name_is k (omega (arith, printed_count)) d));
+        from = λ k u v. le-leb name (get_or table k no_row).first.name (omega (arith, ltb-false (as_defined (get_or t k d)).first.name name (p.1 k d u (omega (arith, printed_count))), name_is k v d));
+      }
 
 -- a number below the next of k is below k, or k
 span_below : (P : ℕ → Type 0) (j k : ℕ) → j < k + 1 → (j < k → P j) → P k → P j
@@ -195,19 +161,25 @@ module _ (profile : ℕ) (tag : Tag) where
       }
 
   module _ (k : ℕ) (s : Searched k) where
-    pub searched_next : k < 112 → stands_at profile tag k ≡ false → Searched (k + 1)
-    searched_next l e = record { none = λ j h. go j h; reached = λ j h. s.reached j (omega arith); up_to = omega arith }
+    pub searched_next : k < 112 → (r : Row) → r ≡ row_at profile k → stands_for r tag ≡ false → Searched (k + 1)
+    unfolding stands_at
+    searched_next l r f w = record { none = λ j h. go j h; reached = λ j h. s.reached j (omega arith); up_to = omega arith }
       where
         go : (j : ℕ) → j < k + 1 → stands_at profile tag j ≡ false
-        go j h = span_below (λ (m : ℕ). stands_at profile tag m ≡ false) j k h (s.none j) e
+        go j h = span_below (λ (m : ℕ). stands_at profile tag m ≡ false) j k h (s.none j) (ap (λ (x : Row). stands_for x tag) (sym f) ∙ w)
 
-    pub searched_found : k < 112 → stands_at profile tag k ≡ true → k ≡ row_for profile tag
-    searched_found l e = sym (first_is (stands_at profile tag) k 112 0 (omega arith) (omega arith) (λ j u v. s.none j v) e)
+    pub searched_found : k < 112 → (r : Row) → r ≡ row_at profile k → stands_for r tag ≡ true → Some r ≡ row_if profile (row_for profile tag)
+    unfolding stands_at
+    searched_found l r e w =
+        let f : stands_at profile tag k ≡ true = ap (λ (x : Row). stands_for x tag) (sym e) ∙ w in
+        let i : k ≡ row_for profile tag = sym (first_is (stands_at profile tag) k 112 0 (omega arith) (omega arith) (λ j u v. s.none j v) f) in
+        let g : row_if profile k ≡ Some (row_at profile k) = simp (lt-ltb k 112 l) in
+        ap Some e ∙ sym g ∙ ap (row_if profile) i
 
     -- the name of row k is another, so it is above the tag's
-    pub searched_past : k < 112 → ((get_or table k no_row).first.name ≡ tag.name → ⊥) → 112 ≡ row_for profile tag
-    unfolding name_reached
-    searched_past l e = sym (first_none (stands_at profile tag) 112 0 (λ j u v. go j v (leb (j + 1) k) refl))
+    pub searched_past : k < 112 → (r : Row) → r ≡ row_at profile k → (r.first.name ≡ tag.name → ⊥) → None ≡ row_if profile (row_for profile tag)
+    unfolding name_reached row_at row_in
+    searched_past l r n e = ap (row_if profile) (sym (first_none (stands_at profile tag) 112 0 (λ j u v. go j v (leb (j + 1) k) refl)))
       where
         go : (j : ℕ) → j < 112 → (t : Bool) → leb (j + 1) k ≡ t → stands_at profile tag j ≡ false
         go j v true q = s.none j (omega (arith, leb-true (j + 1) k q))
@@ -215,7 +187,8 @@ module _ (profile : ℕ) (tag : Tag) where
             let z = leb-false (j + 1) k q in
             let a : tag.name ≤ (get_or table k no_row).first.name = leb-true tag.name (get_or table k no_row).first.name (s.reached k (omega arith) l) in
             let b : (get_or table k no_row).first.name ≤ (get_or table j no_row).first.name = name_up k j (omega arith) v in
+            let m : r.first.name ≡ (get_or table k no_row).first.name = ap (λ (x : Row). x.first.name) n in
             other_name j (λ f. e (omega arith))
 
-    pub searched_end : 112 ≤ k → 112 ≡ row_for profile tag
-    searched_end l = sym (first_none (stands_at profile tag) 112 0 (λ j u v. s.none j (omega arith)))
+    pub searched_end : 112 ≤ k → None ≡ row_if profile (row_for profile tag)
+    searched_end l = ap (row_if profile) (sym (first_none (stands_at profile tag) 112 0 (λ j u v. s.none j (omega arith))))

@@ -1,16 +1,13 @@
 -- The bytes of an entry and of the header, from the writes of their fields.
-use Prim.Native.Nat.{ℕ, ◌+◌, ◌-◌, ◌≤◌, ◌<◌}
+use Prim.Native.Nat.{ℕ, ◌+◌, ◌≤◌}
 use mathlib.Core.Path.{◌≡◌, refl}
 use mathlib.Core.List.{List}
 use native.Mathlib.Omega.{arith}
-use lib.ListN.{length, take, drop, replicate}
-use borrow.Author.Tests.{le-leb, lt-leb}
-use Rattle.reading.specs.Number.{be}
+use lib.ListN.{length, replicate}
 use Rattle.writing.specs.Put.{digits, put}
 use Rattle.writing.proofs.Over.{follow}
 use Rattle.abif.specs.declared.entry.Entry.{Entry}
-use Rattle.abif_write.specs.declared.item.Item.{Item}
-use Rattle.abif_write.specs.Entry.{tag_bytes, data_bytes, entry_bytes, tdir, header_bytes, offset_field}
+use Rattle.abif_write.specs.Entry.{tag_bytes, data_bytes, entry_bytes, tdir, header_bytes}
 
 pub length_entry : (d : Entry) → length (entry_bytes d) ≡ 28
 unfolding entry_bytes tag_bytes data_bytes digits
@@ -29,7 +26,7 @@ module _ (d : Entry) (l l1 l2 l3 : List ℕ) {l4 : List ℕ} (p : ℕ) where
       let f3 = follow l l2 p (p + 8) _ (digits 2 d.element_type) f2 e3 refl (omega arith) in
       follow l l3 p (p + 10) _ (digits 2 d.element_size) f3 e4 refl (omega arith)
 
-  pub data_put : p + 16 ≤ length l → l1 ≡ put l p (digits 4 d.element_count) → l2 ≡ put l1 (p + 4) (digits 4 d.data_size) → l3 ≡ put l2 (p + 8) (digits 4 d.data_offset) → l4 ≡ put l3 (p + 12) (digits 4 0) → l4 ≡ put l p (data_bytes d)
+  pub data_put : p + 16 ≤ length l → l1 ≡ put l p (digits 4 d.element_count) → l2 ≡ put l1 (p + 4) (digits 4 d.data_size) → l3 ≡ put l2 (p + 8) (digits 4 d.data_offset) → l4 ≡ put l3 (p + 12) (replicate 4 0) → l4 ≡ put l p (data_bytes d)
   unfolding data_bytes digits
   data_put h e1 e2 e3 e4 =
       let f2 = follow l l1 p (p + 4) (digits 4 d.element_count) (digits 4 d.data_size) e1 e2 refl (omega arith) in
@@ -46,13 +43,3 @@ header_put l l1 l2 l3 n p h e1 e2 e3 e4 =
     let f2 = follow l l1 0 4 (digits 4 0x41424946) (digits 2 101) e1 e2 refl (omega arith) in
     let f3 = follow l l2 0 6 _ (entry_bytes (tdir n p)) f2 e3 refl (omega arith) in
     follow l l3 0 34 _ (replicate 94 0) f3 e4 refl (omega arith)
-
--- an entry's offset field
-module _ (b : List ℕ) (d : Item) (x r : ℕ) where
-  pub field_inline : d.size ≤ 4 → r ≡ be 4 (take (d.start + d.size - d.start) (drop d.start b)) 0 → r ≡ offset_field b d x
-  field_inline h e =
-      let k : d.start + d.size - d.start ≡ d.size = omega arith in
-      rw (le-leb d.size 4 h) (rw k at e)
-
-  pub field_apart : 4 < d.size → r ≡ x → r ≡ offset_field b d x
-  field_apart h e = rw (lt-leb d.size 4 h) e

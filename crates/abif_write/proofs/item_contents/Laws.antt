@@ -1,20 +1,20 @@
 -- The contents of an item, element by element.
 use Prim.Native.Nat.{ℕ, suc, ◌+◌, ◌*◌}
-use mathlib.Core.Path.{◌≡◌, refl, sym, ◌∙◌}
+use mathlib.Core.Path.{◌≡◌, refl}
 use mathlib.Core.List.{List}
 use mathlib.Core.Bool.{Bool, true, false}
 use borrow.Author.Tests.{ne_eqb}
 use Rattle.abif_write.specs.ItemContents.{each_element, contents_hold}
 
 -- a turn of the loop over elements
-module _ (rule : ℕ → Bool) (i : ℕ) (r : Bool) (e : r ≡ rule (4 * i)) (m : ℕ) where
-  pub each_next : r ≡ true → each_element rule (suc m) i ≡ each_element rule m (i + 1)
+module _ (rule : ℕ → Bool) (i : ℕ) where
+  pub each_next : true ≡ rule (4 * i) → (m : ℕ) → each_element rule (suc m) i ≡ each_element rule m (i + 1)
   unfolding each_element
-  each_next f = rw (sym e ∙ f)
+  each_next e m = rw (← e)
 
-  pub each_stop : r ≡ false → each_element rule (suc m) i ≡ false
+  pub each_stop : false ≡ rule (4 * i) → (m : ℕ) → each_element rule (suc m) i ≡ false
   unfolding each_element
-  each_stop f = rw (sym e ∙ f)
+  each_stop e m = rw (← e)
 
 pub each_end : (rule : ℕ → Bool) (i : ℕ) → true ≡ each_element rule 0 i
 unfolding each_element

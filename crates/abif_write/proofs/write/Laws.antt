@@ -14,11 +14,8 @@ use Rattle.reading.proofs.Passed.{bind_ok, must_ok, done_ok}
 use Rattle.writing.specs.Put.{put}
 use Rattle.writing.proofs.Over.{put_room}
 use Rattle.abif_write.specs.declared.item.Item.{Item}
-use Rattle.abif_write.specs.declared.item.Passing.{Passing}
-use Rattle.abif_write.specs.declared.item.Passing.TheVariants.{Pass, Fail}
-use Rattle.abif_write.specs.Item.{records, item_at, same_lengths, ordered, items_check}
+use Rattle.abif_write.specs.Item.{Records, records, item_at, same_lengths, ordered, items_check}
 use Rattle.abif_write.specs.Private.{Sound, Accepted}
-use Rattle.abif_write.specs.Answers.{answer_of_passing}
 use Rattle.abif_write.specs.File.{directory_place, file, file_check}
 use Rattle.abif_write.specs.Write.{writing}
 use Rattle.abif_write.proofs.item.Laws.{items_sound, lengths_same}
@@ -56,26 +53,27 @@ file_written g b o l n p s m ep h k e =
     let q : 0 + length (file g b n) ≡ length (file g b n) = omega arith in
     (rw (r, z), rw r (e ∙ put_room o 0 (file g b n) (omega arith) ∙ ap (λ (i : ℕ). file g b n ++ drop i o) q))
 
-module _ (names : List ℕ) (numbers types : List ℤ) (counts starts lengths b : List ℕ) (room : ℕ) (t : Bool) (et : t ≡ same_lengths (records names numbers types counts starts lengths)) where
-  pub write_uneven : t ≡ false → answer (writing (records names numbers types counts starts lengths) b room) [] ≡ refused 9 0
+module _ (r : Records) (b : List ℕ) (room : ℕ) (t : Bool) (et : t ≡ same_lengths r) where
+  pub write_uneven : t ≡ false → answer (writing r b room) [] ≡ refused 9 0
   unfolding writing holds
   write_uneven f = simp (answer_bind, answer_must, ← et, f)
 
-  module _ (f : t ≡ true) (r : Passing) (er : answer_of_passing r ≡ answer (items_check (item_at (records names numbers types counts starts lengths)) b (length names) 0) []) where
-    pub write_refused : (n : ℕ) → r ≡ Fail n → answer (writing (records names numbers types counts starts lengths) b room) [] ≡ refused n 0
+  module _ (f : t ≡ true) where
+    pub write_refused : (n : ℕ) → refused n 0 ≡ answer (items_check (item_at r) b (length r.names) 0) [] → answer (writing r b room) [] ≡ refused n 0
     unfolding writing holds
-    write_refused n q = simp (answer_bind, answer_must, ← et, f, ← er, q)
+    write_refused n q = simp (answer_bind, answer_must, ← et, f, ← q)
 
-    pub write_on : r ≡ Pass → answer (writing (records names numbers types counts starts lengths) b room) [] ≡ answer (file_check (item_at (records names numbers types counts starts lengths)) b (length names) room) []
-    unfolding writing holds
-    write_on q = simp (answer_bind, answer_must, ← et, f, ← er, q)
+    module _ (q : ok tt ≡ answer (items_check (item_at r) b (length r.names) 0) []) where
+      pub write_on : answer (writing r b room) [] ≡ answer (file_check (item_at r) b (length r.names) room) []
+      unfolding writing holds
+      write_on = simp (answer_bind, answer_must, ← et, f, ← q)
 
-    pub accepted : r ≡ Pass → Accepted (records names numbers types counts starts lengths) b
-    accepted q =
-        record {
-          same_lengths = lengths_same names numbers types counts starts lengths (sym et ∙ f);
-          sound = λ k l. (items_sound (item_at (records names numbers types counts starts lengths)) b (length names) 0 tt (sym er ∙ ap answer_of_passing q) k (omega arith) (omega arith)).0;
-        }
+      pub accepted : Accepted r b
+      accepted =
+          record {
+            same_lengths = lengths_same r (sym et ∙ f);
+            sound = λ k l. (items_sound (item_at r) b (length r.names) 0 tt (sym q) k (omega arith) (omega arith)).0;
+          }
 
 -- what a call that wrote the file f has passed
 pub record Made (names : List ℕ) (numbers types : List ℤ) (counts starts lengths b f : List ℕ) : Type 0 where

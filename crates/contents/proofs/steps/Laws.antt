@@ -1,11 +1,12 @@
 -- The flow steps of a read, from the steps one by one; and the steps of a part, where the code reads them.
-use Prim.Native.Nat.{ℕ, zero, suc, ◌+◌, ◌-◌, ◌*◌, ◌≤◌, ◌<◌, min}
+use Prim.Native.Nat.{ℕ, zero, suc, ◌+◌, ◌*◌, ◌≤◌, ◌<◌, min}
 use mathlib.Core.Path.{◌≡◌, refl, sym, ◌∙◌, ap}
-use mathlib.Core.List.{List}
+use mathlib.Core.List.{List, ◌++◌}
 use mathlib.Core.Bool.{Bool, true, false}
 use native.Mathlib.Omega.{arith}
 use native.Mathlib.Nat.{add-zero, zero-add}
-use lib.ListN.{length, take, drop}
+use lib.ListN.{length, take, drop, get_or, get_or-append, length-append}
+use lib.Seq.{get_or-append-add}
 use lib.Dec.{leb}
 use borrow.Author.Tests.{le-leb, lt-leb, leb-true, leb-false, ne_eqb}
 use Rattle.reading.specs.Choice.{pick}
@@ -15,15 +16,16 @@ use Rattle.reading.proofs.Fold.{Same, same_first, fold_same, window_length}
 use Rattle.reading.proofs.Loop.{Left}
 use Rattle.reading.proofs.Steps.{answer_bind, answer_must}
 use Rattle.reading.proofs.Width.{be_in_part, be_taken}
+use Rattle.contents.proofs.text.Laws.{be_byte}
 use Rattle.contents.specs.Steps.{flow_step, sums_within, steps_check, step_sum}
 
 -- steps with the sum t, then m more
 pub sum_start : (l : List ℕ) (n : ℕ) → Left (λ m. 0 + step_sum l 0 m) n 0 (step_sum l 0 n)
 sum_start l n m e = zero-add (step_sum l 0 m) ∙ ap (step_sum l 0) (omega arith)
 
-pub sum_on : (l : List ℕ) (i t b : ℕ) → b ≡ flow_step l i → (m : ℕ) → t + step_sum l i (suc m) ≡ t + b + step_sum l (i + 1) m
+pub sum_on : (l : List ℕ) (i t b : ℕ) → b ≡ get_or l i 0 → (m : ℕ) → t + step_sum l i (suc m) ≡ t + b + step_sum l (i + 1) m
 unfolding step_sum
-sum_on l i t b e m = rw (← e) (omega arith)
+sum_on l i t b e m = rw (be_byte, ← e) (omega arith)
 
 pub sum_end : (l : List ℕ) (i t : ℕ) → t + step_sum l i 0 ≡ t
 unfolding step_sum
@@ -82,22 +84,19 @@ module _ (l : List ℕ) (p n k : ℕ) (e : k ≡ n) (h : p + n ≤ length l) whe
 pub sum_taken : (l : List ℕ) (m p n : ℕ) → p + n ≤ m → step_sum (take m l) p n ≡ step_sum l p n
 sum_taken l m p n h = sum_same (take m l) l p p n (λ i k. be_taken 1 m (p + i) l (omega arith))
 
-pub sum_begin : (l : List ℕ) (n : ℕ) → 0 + step_sum l 0 (n - 0) ≡ step_sum l 0 n
-sum_begin l n = zero-add _ ∙ ap (step_sum l 0) (omega arith)
+-- the steps of two lists, one behind the other
+sum_append : (l m : List ℕ) → step_sum (l ++ m) 0 (length (l ++ m)) ≡ step_sum l 0 (length l) + step_sum m 0 (length m)
+sum_append l m =
+    let front : step_sum (l ++ m) 0 (length l) ≡ step_sum l 0 (length l) = sum_same (l ++ m) l 0 0 (length l) (λ i h. be_byte _ _ ∙ get_or-append l m 0 (0 + i) (omega arith) ∙ sym (be_byte _ _)) in
+    let back : step_sum (l ++ m) (0 + length l) (length m) ≡ step_sum m 0 (length m) = sum_same (l ++ m) m (0 + length l) 0 (length m) (λ i h. be_byte _ _ ∙ ap (λ (k : ℕ). get_or (l ++ m) k 0) (omega arith) ∙ get_or-append-add l m (0 + i) 0 ∙ sym (be_byte _ _)) in
+    ap (step_sum (l ++ m) 0) (length-append l m) ∙ sum_split (l ++ m) 0 (length l) (length m) ∙ rw (front, back)
 
-pub sum_all : (l : List ℕ) (a n t whole : ℕ) → n ≤ a → t + step_sum l a (n - a) ≡ whole → t ≡ whole
-sum_all l a n t whole h w =
-    let e : n - a ≡ 0 = omega arith in
-    sym (sum_end l a t) ∙ ap (λ (k : ℕ). t + step_sum l a k) (sym e) ∙ w
+pub sum_front : (l a b : List ℕ) → l ≡ a ++ b → step_sum l 0 (length l) ≡ step_sum a 0 (length a) + step_sum b 0 (length b)
+sum_front l a b e = ap (λ (x : List ℕ). step_sum x 0 (length x)) e ∙ sum_append a b
 
--- the steps from place a on are those of a part up to b, and those behind it
-pub sum_chunk : (l : List ℕ) (a b n t v whole : ℕ) → a ≤ b → b ≤ n → n ≤ length l → t + step_sum l a (n - a) ≡ whole → v ≡ step_sum (take (b - a) (drop a l)) 0 (length (take (b - a) (drop a l))) → t + v + step_sum l b (n - b) ≡ whole
-sum_chunk l a b n t v whole g h k w q =
-    let e : n - a ≡ b - a + (n - b) = omega arith in
-    let d : a + (b - a) ≡ b = omega arith in
-    let x : step_sum l a (n - a) ≡ step_sum l a (b - a) + step_sum l b (n - b) = ap (step_sum l a) e ∙ sum_split l a (b - a) (n - b) ∙ ap (λ (i : ℕ). step_sum l a (b - a) + step_sum l i (n - b)) d in
-    let y : v ≡ step_sum l a (b - a) = q ∙ sum_window l a (b - a) (b - a) refl (omega arith) in
-    omega arith
+pub sum_none : (l : List ℕ) → length l ≡ 0 → step_sum l 0 (length l) ≡ 0
+unfolding step_sum
+sum_none l e = rw e
 
 -- the flow steps of a read
 module _ (f : ℕ) (l s : List ℕ) (p n : ℕ) where

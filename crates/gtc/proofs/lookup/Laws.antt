@@ -10,8 +10,8 @@ use Rattle.reading.proofs.Steps.{answer_bind, answer_must}
 use Rattle.reading.proofs.Passed.{bind_ok, not_ok}
 use Rattle.gtc.specs.declared.entry.Entry.{Entry}
 use Rattle.gtc.specs.declared.item.Stored.{Stored}
-use Rattle.gtc.specs.declared.item.Listing.{Listing}
-use Rattle.gtc.specs.declared.item.Listing.TheVariants.{Listed, Unlisted}
+use Rattle.std.specs.Prelude.{Option}
+use Rattle.std.specs.Prelude.{Some, None}
 use Rattle.reading.specs.declared.item.ItemData.{ItemData}
 use Rattle.gtc.specs.Table.{table_end, table}
 use Rattle.gtc.specs.Entry.{entry_with}
@@ -23,19 +23,19 @@ use Rattle.gtc.proofs.item.Laws.{item_within}
 
 -- a listed id goes on to its entry, an unlisted one is 10
 module _ (s h : List ℕ) (n k : ℕ) where
-  pub in_listed : (v : Stored) → listing_of k ≡ Listed v → answer (lookup_listed v h n k) s ≡ answer (lookup_in h n k) s
+  pub in_listed : (v : Stored) → listing_of k ≡ Some v → answer (lookup_listed v h n k) s ≡ answer (lookup_in h n k) s
   unfolding lookup_in holds
   in_listed v e = rw e (simp (answer_bind, answer_must))
 
-  pub in_unlisted : listing_of k ≡ Unlisted → refused 10 0 ≡ answer (lookup_in h n k) s
+  pub in_unlisted : listing_of k ≡ None → refused 10 0 ≡ answer (lookup_in h n k) s
   unfolding lookup_in holds
   in_unlisted e = rw e (simp (answer_bind, answer_must))
 
 -- an id that is looked up is listed
-pub listed_ok : (l : Listing) (s : List ℕ) (u : Unit {0}) → answer (provided (is_listed l) 10) s ≡ ok u → l ≡ Listed (stored_of l)
+pub listed_ok : (l : Option Stored) (s : List ℕ) (u : Unit {0}) → answer (provided (is_listed l) 10) s ≡ ok u → l ≡ Some (stored_of l)
 unfolding holds
-listed_ok (Listed v) s u w = refl
-listed_ok Unlisted s u w =
+listed_ok (Some v) s u w = refl
+listed_ok None s u w =
     let z : answer (provided false 10) s ≡ refused 10 0 = simp answer_must in
     absurd (not_ok (sym z ∙ w))
 

@@ -4,17 +4,14 @@ use mathlib.Core.Path.{◌≡◌, refl, sym, ◌∙◌, ap}
 use mathlib.Core.List.{List}
 use native.Mathlib.Omega.{arith}
 use lib.ListN.{length, take}
-use Rattle.reading.specs.declared.check.Test.{Test}
 use Rattle.reading.specs.Number.{be, le}
-use Rattle.reading.specs.Check.{Check, Outcome, passed, failed, short, ok, refused, answer_of_outcome, run, answer, done, ◌>>=◌}
-use Rattle.reading.proofs.Cut.{answer_plain}
+use Rattle.reading.specs.declared.check.Test as code
+use Rattle.reading.specs.Check.{Outcome, passed, failed, short, ok, run, answer}
+use Rattle.reading.specs.Answers.{test_of}
 use Rattle.reading.proofs.Steps.{run_bind, run_done, run_need_present, run_need_absent}
-use Rattle.reading.proofs.Passed.{bind_ok, need_ok, done_ok, bind_refused, bind_answered, map_refused}
+use Rattle.reading.proofs.Passed.{bind_ok, need_ok, done_ok}
 use Rattle.reading.proofs.Width.{byte_le, le_split}
-use Rattle.gtc.specs.declared.table.Counted.{Counted}
-use Rattle.gtc.specs.declared.table.Counted.TheVariants.{Count, Failed, Short}
-use Rattle.gtc.specs.Table.{Table, header_size, table_end, mark_check, count_check, table, entry_count}
-use Rattle.gtc.specs.Answers.{outcome_of_counted}
+use Rattle.gtc.specs.Table.{Table, header_size, table_end, mark_check, count_check, table}
 
 -- the mark, from its two lower bytes and its upper one
 pub mark_bytes : (h : List ℕ) (a b : ℕ) → a ≡ le 2 h 0 → b ≡ be 1 h 2 → a + 65536 * b ≡ le 3 h 0
@@ -32,32 +29,32 @@ identified s = run (mark_check (le 3 (take header_size s) 0) (le 1 (take header_
 abbrev pub numbered : List ℕ → Outcome (Unit {0})
 numbered s = run (count_check (entries s)) s
 
-module _ (s : List ℕ) where
-  pub table_short : length s < 8 → short (record { start = 0; end = 8 }) 0 ≡ run entry_count s
-  unfolding entry_count table
-  table_short h = simp (run_bind, run_need_absent 0 8 s h)
-
-  module _ (h : 8 ≤ length s) where
-    pub table_mark : (t : Test) → identified s ≡ failed t 0 → failed t 0 ≡ run entry_count s
-    unfolding entry_count table
-    table_mark t m = simp (run_need_present 0 8 s h, run_bind, m)
-
-    module _ (m : identified s ≡ passed tt) where
-      pub table_count : (t : Test) → numbered s ≡ failed t 0 → failed t 0 ≡ run entry_count s
-      unfolding entry_count table
-      table_count t k = simp (run_need_present 0 8 s h, run_bind, m, k)
-
-      pub table_cut : numbered s ≡ passed tt → length s < table_end (entries s) → short (record { start = 8; end = table_end (entries s) }) 0 ≡ run entry_count s
-      unfolding entry_count table
-      table_cut k l = simp (run_need_present 0 8 s h, run_bind, m, k, run_need_absent 8 (table_end (entries s)) s l, run_done)
-
-      pub table_whole : numbered s ≡ passed tt → table_end (entries s) ≤ length s → passed (entries s) ≡ run entry_count s
-      unfolding entry_count table
-      table_whole k l = simp (run_need_present 0 8 s h, run_bind, m, k, run_need_present 8 (table_end (entries s)) s l, run_done)
-
 -- a table of n entries that the file s begins with
 abbrev pub table_in : List ℕ → ℕ → Table
 table_in s n = record { count = n; up_to = take (table_end n) s }
+
+module _ (s : List ℕ) where
+  pub table_short : length s < 8 → short (record { start = 0; end = 8 }) 0 ≡ run table s
+  unfolding table
+  table_short h = simp (run_bind, run_need_absent 0 8 s h)
+
+  module _ (h : 8 ≤ length s) where
+    pub table_mark : (t : code.Test) → identified s ≡ failed (test_of t) 0 → failed (test_of t) 0 ≡ run table s
+    unfolding table
+    table_mark t m = simp (run_need_present 0 8 s h, run_bind, m)
+
+    module _ (m : identified s ≡ passed tt) where
+      pub table_count : (t : code.Test) → numbered s ≡ failed (test_of t) 0 → failed (test_of t) 0 ≡ run table s
+      unfolding table
+      table_count t k = simp (run_need_present 0 8 s h, run_bind, m, k)
+
+      pub table_cut : numbered s ≡ passed tt → length s < table_end (entries s) → short (record { start = 8; end = table_end (entries s) }) 0 ≡ run table s
+      unfolding table
+      table_cut k l = simp (run_need_present 0 8 s h, run_bind, m, k, run_need_absent 8 (table_end (entries s)) s l, run_done)
+
+      pub table_whole : numbered s ≡ passed tt → (n e : ℕ) → n ≡ entries s → e ≡ table_end (entries s) → e ≤ length s → passed (record { count = n; up_to = take e s }) ≡ run table s
+      unfolding table
+      table_whole k n e q r l = rw (q, r) (simp (run_need_present 0 8 s h, run_bind, m, k, run_need_present 8 (table_end (entries s)) s (rw (← r) l), run_done))
 
 close : (s l : List ℕ) (c n : ℕ) (r : Table) → ◌≡◌ {A = Table} (record { count = c; up_to = l }) r → r.count ≡ n → (table_end c ≤ length s) × (l ≡ take (table_end c) s) → (table_end n ≤ length s) × (r ≡ table_in s n)
 close s l c n r f g h =
@@ -74,32 +71,3 @@ table_found s t w =
     let d = bind_ok _ _ s t c.2 in
     let e = bind_ok _ _ s t d.2 in
     close s e.0 _ t.count t (done_ok _ _ s e.2) refl (need_ok _ _ s e.0 e.1)
-
-pub table_at : (s : List ℕ) (n : ℕ) → answer entry_count s ≡ ok n → (table_end n ≤ length s) × (answer table s ≡ ok (table_in s n))
-unfolding entry_count
-table_at s n w =
-    let a = bind_ok table (λ t. done t.count) s n w in
-    let f = table_found s a.0 a.1 in
-    let e : a.0.count ≡ n = done_ok _ _ s a.2 in
-    (rw (← e) f.0, rw (← e) (a.1 ∙ ap ok f.1))
-
--- what the code has read
-module _ (s : List ℕ) (r : Counted) (q : outcome_of_counted r ≡ run entry_count s) where
-  counted : answer_of_outcome (outcome_of_counted r) ≡ answer entry_count s
-  counted = ap answer_of_outcome q ∙ sym (answer_plain entry_count s)
-
-  pub count_known : (n : ℕ) → r ≡ Count n → answer entry_count s ≡ ok n
-  count_known n w = sym counted ∙ ap (λ (x : Counted). answer_of_outcome (outcome_of_counted x)) w
-
-  -- a call that begins with the table's checks: refused where they are, else what follows them
-  module _ {B : Type 0} (f : Table → Check B) where
-    pub after_failed : (t : Test) → r ≡ Failed t → refused t.number 0 ≡ answer (table >>= f) s
-    unfolding entry_count
-    after_failed t w = bind_refused table f s _ 0 (map_refused table (λ t. t.count) s _ 0 (sym counted ∙ ap (λ (x : Counted). answer_of_outcome (outcome_of_counted x)) w))
-
-    pub after_short : (p m : ℕ) → r ≡ Short p m → refused 1 0 ≡ answer (table >>= f) s
-    unfolding entry_count
-    after_short p m w = bind_refused table f s _ 0 (map_refused table (λ t. t.count) s _ 0 (sym counted ∙ ap (λ (x : Counted). answer_of_outcome (outcome_of_counted x)) w))
-
-    pub after_count : (n : ℕ) → r ≡ Count n → (e : ℕ) → e ≡ table_end n → answer (f (record { count = n; up_to = take e s })) s ≡ answer (table >>= f) s
-    after_count n w e h = rw h (bind_answered table f s _ (table_at s n (count_known n w)).1)

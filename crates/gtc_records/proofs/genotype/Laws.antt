@@ -51,6 +51,7 @@ module _ (b : ℕ) where
   eight : Coded 8
   eight h = high (37 + b) (omega arith) ∙ longer (37 + b) 3 4 (omega arith) ∙ longer (37 + b) 4 3 (omega arith) ∙ longer (37 + b) 5 2 (omega arith) ∙ longer (37 + b) 6 1 (omega arith) ∙ longer (37 + b) 7 0 (omega arith) ∙ last 8 b
 
+-- the letters of a code are those that document 01's formula gives it; docs/DECISIONS.md names this, and nothing cites it
 pub letters_code : (p b : ℕ) → 3 ≤ p → p ≤ 8 → b ≤ p → meaning (code_of p b) ≡ Alleles p b
 letters_code p b l h = span (Coded b) 3 p l (three b) (λ k. span (Coded b) 4 p k (four b) (λ m. span (Coded b) 5 p m (five b) (λ n. span (Coded b) 6 p n (six b) (λ q. span (Coded b) 7 p q (seven b) (λ r. span (Coded b) 8 p r (eight b) (λ u. absurd (omega arith)))))))
 

@@ -1,40 +1,34 @@
 -- The SNPs' arrays and records, from the answers of their parts.
-use Prim.Native.Nat.{ℕ, ◌-◌, ◌≤◌}
+use Prim.Native.Nat.{ℕ, ◌+◌, ◌-◌, ◌*◌, ◌≤◌}
 use mathlib.Core.Path.{◌≡◌, refl, ◌∙◌, ap}
 use mathlib.Core.List.{List}
-use mathlib.Core.Bool.{true}
-use native.Mathlib.Nat.{add-sub_cancel_left}
+use mathlib.Core.Bool.{true, false}
 use native.Mathlib.Omega.{arith}
-use lib.ListN.{length, take, drop, length-take, length-drop}
+use lib.ListN.{length, take}
 use Rattle.reading.specs.Choice.{is_number_of}
-use Rattle.reading.specs.Check.{ok, answer, holds, need}
+use Rattle.reading.specs.Number.{le}
+use Rattle.reading.specs.Refusal.{number}
+use Rattle.reading.specs.declared.refusal.Refusal.{Refusal}
+use Rattle.reading.specs.Check.{ok, refused, answer, holds, need}
+use Rattle.reading.proofs.Results.{answer_refused}
 use Rattle.reading.proofs.Steps.{answer_bind, answer_must, answer_done, answer_need_present}
 use Rattle.reading.specs.Part.{Part, bytes_at}
 use Rattle.reading.specs.Item.{data_span}
 use Rattle.reading.proofs.Passed.{bind_ok, done_ok}
 use Rattle.reading.proofs.Parts.{part_kept}
 use Rattle.reading.specs.declared.item.ItemData.{ItemData}
+use Rattle.std.specs.Prelude.{Float}
+use Rattle.std.specs.Float.{binary32}
+use Rattle.std.specs.Float.Ieee.{of_bits}
 use Rattle.gtc_records.specs.declared.snp.SnpArrays.{SnpArrays}
+use Rattle.gtc_records.specs.declared.genotype.Genotype.{Genotype}
+use Rattle.gtc_records.specs.Genotype.{decoding}
 use Rattle.gtc.specs.Item.{listing_of, raw_xid, raw_yid, genotypes_id, base_calls_id, genotype_scores_id, item_end}
 use Rattle.gtc.specs.Lookup.{looking_up}
 use Rattle.gtc.proofs.Arrays.{of_snps, same_count}
 use Rattle.gtc.proofs.lookup.Laws.{lookup_within}
-use Rattle.gtc_records.specs.Snp.{call_arrays, intensity_arrays, snp_arrays, SnpBytes, snp_bytes_of, snp_bytes, snp_at, snp_of}
-use Rattle.gtc_records.specs.Private.{ArraysPresent, ArraysSized, ElementsPresent}
-
--- an array's elements, cut out of the file
-pub part_elements : (s : List ℕ) (q : ItemData) → take (item_end q - q.start) (drop q.start s) ≡ bytes_at s (data_span q)
-part_elements s q = rw add-sub_cancel_left
-
--- the elements of the five arrays in s
-abbrev pub bytes_in : List ℕ → SnpArrays → SnpBytes
-bytes_in s a =
-    snp_bytes_of
-    (bytes_at s (data_span a.genotypes))
-    (bytes_at s (data_span a.base_calls))
-    (bytes_at s (data_span a.scores))
-    (bytes_at s (data_span a.x))
-    (bytes_at s (data_span a.y))
+use Rattle.gtc_records.specs.Snp.{call_arrays, intensity_arrays, snp_arrays, SnpBytes, snp_bytes, is_base_call, snp_at, snp_of}
+use Rattle.gtc_records.specs.Private.{bytes_in, ArraysPresent, ArraysSized}
 
 -- they are the same in the bytes up to their end
 elements_kept : (s : List ℕ) (q : ItemData) → bytes_at (take (item_end q) s) (data_span q) ≡ bytes_at s (data_span q)
@@ -120,28 +114,21 @@ arrays_sized s a w =
     let q = same_count 2 1 s _ _ y g in
     record { genotypes = g.size ∙ omega arith; base_calls = b.size ∙ omega arith; scores = f.size ∙ omega arith; x = x.size ∙ omega arith; y = y.size ∙ omega arith }
 
-length_elements : (s : List ℕ) (q : ItemData) → item_end q ≤ length s → length (bytes_at s (data_span q)) ≡ q.size
-length_elements s q h = simp (length-drop, length-take) (omega arith)
+-- the record of a SNP, from its code and its letters
+module _ (b : SnpBytes) (j : ℕ) (l : List ℕ) (code : ℕ) (is-code : code ≡ le 1 b.genotypes j) where
+  pub code_refused : (r : Refusal) → refused (number r) 0 ≡ answer (decoding code) l → refused (number r) 0 ≡ answer (snp_at b j) l
+  unfolding snp_at
+  code_refused r q = answer_refused _ l _ r 0 (rw is-code at q)
 
-pub elements_there : (s : List ℕ) (a : SnpArrays) → ArraysPresent s a → ArraysSized a → ElementsPresent (bytes_in s a) a.genotypes.count
-elements_there s a p z =
-    let g = length_elements s a.genotypes p.genotypes in
-    let b = length_elements s a.base_calls p.base_calls in
-    let f = length_elements s a.scores p.scores in
-    let x = length_elements s a.x p.x in
-    let y = length_elements s a.y p.y in
-    let u = z.genotypes in
-    let v = z.base_calls in
-    let w = z.scores in
-    let m = z.x in
-    let n = z.y in
-    record { genotypes = omega arith; base_calls = omega arith; scores = omega arith; x = omega arith; y = omega arith }
+  module _ (g : Genotype) (q : ok g ≡ answer (decoding code) l) (v w : ℕ) (is-v : v ≡ le 1 b.base_calls (2 * j)) (is-w : w ≡ le 1 b.base_calls (2 * j + 1)) where
+    pub first_refused : false ≡ is_base_call v → refused 11 0 ≡ answer (snp_at b j) l
+    unfolding snp_at holds
+    first_refused f = simp (answer_bind, answer_must, ← is-code, ← is-v, ← q, ← f)
 
-pub elements_within : (b : SnpBytes) (m n : ℕ) → m ≤ n → ElementsPresent b n → ElementsPresent b m
-elements_within b m n h e =
-    let g = e.genotypes in
-    let c = e.base_calls in
-    let f = e.scores in
-    let x = e.x in
-    let y = e.y in
-    record { genotypes = omega arith; base_calls = omega arith; scores = omega arith; x = omega arith; y = omega arith }
+    pub second_refused : true ≡ is_base_call v → false ≡ is_base_call w → refused 11 0 ≡ answer (snp_at b j) l
+    unfolding snp_at holds
+    second_refused f h = simp (answer_bind, answer_must, ← is-code, ← is-v, ← is-w, ← q, ← f, ← h)
+
+    pub snp_read : true ≡ is_base_call v → true ≡ is_base_call w → (n x y : ℕ) (score : Float) → n ≡ le 4 b.scores (4 * j) → score ≡ of_bits binary32 n → x ≡ le 2 b.x (2 * j) → y ≡ le 2 b.y (2 * j) → ok (record { code = code; genotype = g; call_1 = v; call_2 = w; score = score; score_bits = n; x = x; y = y }) ≡ answer (snp_at b j) l
+    unfolding snp_at holds
+    snp_read f h n x y score is-n is-score is-x is-y = simp (answer_bind, answer_must, answer_done, ← is-code, ← is-v, ← is-w, ← q, ← f, ← h, ← is-n, ← is-score, ← is-x, ← is-y)

@@ -9,7 +9,8 @@ use Rattle.reading.proofs.Passed.{bind_ok, done_ok, must_ok}
 use Rattle.reading.proofs.Tests.{number_within}
 use Rattle.gtc.specs.Item.{listing_of, normalization_transformations_id}
 use Rattle.gtc.specs.Lookup.{looking_up}
-use Rattle.gtc_records.specs.Transformation.{transformation_size, Transformed, transformation_of, transformation_reading}
+use Rattle.gtc_records.specs.declared.transformation.Transformed.{Transformed}
+use Rattle.gtc_records.specs.Transformation.{transformation_size, transformation_of, transformation_reading}
 use Rattle.gtc.proofs.Arrays.{array_sized}
 use Rattle.gtc.proofs.lookup.Laws.{lookup_within}
 

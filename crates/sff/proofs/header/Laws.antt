@@ -4,7 +4,8 @@ use mathlib.Core.Path.{◌≡◌, subst}
 use mathlib.Core.List.{List}
 use native.Mathlib.Omega.{arith}
 use lib.ListN.{length, take}
-use Rattle.reading.specs.declared.check.Test.{Test}
+use Rattle.reading.specs.declared.check.Test as made
+use Rattle.reading.specs.Answers.{test_of}
 use Rattle.reading.specs.Number.{be}
 use Rattle.reading.specs.Check.{Outcome, passed, failed, short, ok, run, answer}
 use Rattle.reading.proofs.Steps.{run_bind, run_done, run_need_present, run_need_absent}
@@ -29,18 +30,18 @@ module _ (s : List ℕ) where
   header_short h = simp (run_bind, run_need_absent 0 31 s h)
 
   module _ (h : 31 ≤ length s) where
-    pub header_bad : (t : Test) → tested s ≡ failed t 0 → failed t 0 ≡ run header s
+    pub header_bad : (t : made.Test) → failed (test_of t) 0 ≡ tested s → failed (test_of t) 0 ≡ run header s
     unfolding header
-    header_bad t m = simp (run_need_present 0 31 s h, run_bind, m)
+    header_bad t m = simp (run_need_present 0 31 s h, run_bind, ← m)
 
-    module _ (m : tested s ≡ passed tt) where
+    module _ (m : passed tt ≡ tested s) where
       pub header_cut : length s < (fields s).header_length → short (record { start = 0; end = (fields s).header_length }) 0 ≡ run header s
       unfolding header
-      header_cut l = simp (run_need_present 0 31 s h, run_bind, m, run_need_absent 0 (fields s).header_length s l)
+      header_cut l = simp (run_need_present 0 31 s h, run_bind, ← m, run_need_absent 0 (fields s).header_length s l)
 
       pub header_good : (fields s).header_length ≤ length s → passed (fields s) ≡ run header s
       unfolding header
-      header_good l = simp (run_need_present 0 31 s h, run_bind, m, run_need_present 0 (fields s).header_length s l, run_done)
+      header_good l = simp (run_need_present 0 31 s h, run_bind, ← m, run_need_present 0 (fields s).header_length s l, run_done)
 
 -- a header that was answered is there
 pub header_there : (s : List ℕ) (d : Header) → answer header s ≡ ok d → d.header_length ≤ length s

@@ -4,7 +4,8 @@ use mathlib.Core.Path.{◌≡◌, refl, sym, ◌∙◌, ap, subst}
 use mathlib.Core.List.{List}
 use native.Mathlib.Omega.{arith}
 use lib.ListN.{length, take, drop}
-use Rattle.reading.specs.declared.check.Test.{Test}
+use Rattle.reading.specs.declared.check.Test as made
+use Rattle.reading.specs.Answers.{test_of}
 use Rattle.reading.specs.Number.{be}
 use Rattle.reading.specs.Check.{passed, failed, short, ok, run, answer}
 use Rattle.reading.proofs.Width.{be_in_part, be_taken}
@@ -57,23 +58,23 @@ module _ (f p : ℕ) (s : List ℕ) where
         let z : p + 0 ≡ p = omega arith in
         (sym (ea ∙ field 2 0 p s (omega arith) ∙ ap (be 2 (take (p + 16) s)) z), sym (en ∙ field 2 2 p s (omega arith)), sym (eb ∙ field 4 4 p s (omega arith)))
 
-    pub frame_bad : (t : Test) → run (read_length_check p a n) s ≡ failed t 0 → failed t 0 ≡ run (framing f p) s
+    pub frame_bad : (t : made.Test) → failed (test_of t) 0 ≡ run (read_length_check p a n) s → failed (test_of t) 0 ≡ run (framing f p) s
     unfolding framing present_read present_data
-    frame_bad t q = simp (run_bind, run_need_present p (p + 16) s h, field_start p s, known.0, known.1, q)
+    frame_bad t q = simp (run_bind, run_need_present p (p + 16) s h, field_start p s, known.0, known.1, ← q)
 
-    module _ (q : run (read_length_check p a n) s ≡ passed tt) where
+    module _ (q : passed tt ≡ run (read_length_check p a n) s) where
       pub frame_header : length s < p + a → short (record { start = p; end = p + a }) 0 ≡ run (framing f p) s
       unfolding framing present_read present_data
-      frame_header l = simp (run_bind, run_need_present p (p + 16) s h, field_start p s, known.0, known.1, q, run_need_absent p (p + a) s l)
+      frame_header l = simp (run_bind, run_need_present p (p + 16) s h, field_start p s, known.0, known.1, ← q, run_need_absent p (p + a) s l)
 
       module _ (l : p + a ≤ length s) (m : ℕ) (k : m ≡ p + a + data_length f b) where
         pub frame_data : length s < m → short (record { start = p + a; end = m }) 0 ≡ run (framing f p) s
         unfolding framing present_read present_data
-        frame_data g = simp (run_bind, run_need_present p (p + 16) s h, field_start p s, known.0, known.1, known.2, q, run_need_present p (p + a) s l, ← k, run_need_absent (p + a) m s g)
+        frame_data g = simp (run_bind, run_need_present p (p + 16) s h, field_start p s, known.0, known.1, known.2, ← q, run_need_present p (p + a) s l, ← k, run_need_absent (p + a) m s g)
 
         pub frame_end : m ≤ length s → passed m ≡ run (framing f p) s
         unfolding framing present_read present_data
-        frame_end g = simp (run_bind, run_need_present p (p + 16) s h, field_start p s, known.0, known.1, known.2, q, run_need_present p (p + a) s l, ← k, run_need_present (p + a) m s g, run_done)
+        frame_end g = simp (run_bind, run_need_present p (p + 16) s h, field_start p s, known.0, known.1, known.2, ← q, run_need_present p (p + a) s l, ← k, run_need_present (p + a) m s g, run_done)
 
 -- what the checks have shown of a read that is there
 pub record There (f p : ℕ) (s : List ℕ) (r : PresentRead) : Type 0 where

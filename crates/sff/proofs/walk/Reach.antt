@@ -16,7 +16,8 @@ use Rattle.sff.specs.declared.walk.Boundary.{Boundary}
 use Rattle.sff_fields.specs.Padding.{padded}
 use Rattle.sff.specs.Read.{read_header_of, PresentRead, present_data, present_read, framing}
 use Rattle.sff_fields.specs.Read.{data_start, read_end, read_length_check}
-use Rattle.sff.specs.Walk.{behind_index, skip_index, Placed, next_read, Passage, walk}
+use Rattle.sff.specs.declared.walk.Placed.{Placed}
+use Rattle.sff.specs.Walk.{behind_index, skip_index, next_read, Passage, walk}
 use Rattle.sff_fields.proofs.padding.Laws.{padded_bounds}
 use Rattle.sff.proofs.read.Laws.{present_there, field_start}
 

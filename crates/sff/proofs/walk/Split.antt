@@ -6,12 +6,16 @@ use native.Mathlib.Nat.{zero-add, add-zero}
 use native.Mathlib.Omega.{arith}
 use lib.ListN.{get_or}
 use lib.Seq.{get_or-append_seam}
+use Rattle.reading.specs.declared.check.Failure.{Failure}
+use Rattle.reading.specs.declared.check.Failure.TheVariants.{Failed, Short}
+use Rattle.reading.specs.Answers.{outcome_of_failure}
 use Rattle.reading.specs.Check.{Outcome, passed, failed, short, ok, run, answer}
 use Rattle.reading.proofs.Steps.{then, answer_bind, answer_done}
 use Rattle.reading.proofs.Passed.{bind_ok, done_ok}
 use Rattle.sff_fields.specs.declared.header.Header.{Header}
 use Rattle.sff.specs.declared.walk.Boundary.{Boundary}
-use Rattle.sff.specs.Walk.{Placed, next_read, Passage, walk, walk_past}
+use Rattle.sff.specs.declared.walk.Placed.{Placed}
+use Rattle.sff.specs.Walk.{next_read, Passage, walk, walk_past}
 use Rattle.sff.proofs.walk.Laws.{past_failed, past_short, past_next, past_end, next_any, walk_any, walk_length}
 use Rattle.sff.proofs.walk.Reach.{walk_reach}
 
@@ -89,6 +93,11 @@ module _ (d : Header) (s : List ℕ) where
   past_parts m n i b l o h =
       let q : n ≡ m + (n - m) = omega arith in
       ap (λ (k : ℕ). run (walk_past d k i b) s) q ∙ past_plus m (n - m) i b ∙ ap (λ (x : Outcome Boundary). then x (λ c. run (walk_past d (n - m) (i + m) c) s)) h
+
+  -- what is wrong with the first m reads is wrong with all
+  pub parts_wrong : (m n i : ℕ) (b : Boundary) → m ≤ n → (f : Failure) (e : ℕ) → outcome_of_failure f e ≡ run (walk_past d m i b) s → outcome_of_failure f e ≡ run (walk_past d n i b) s
+  parts_wrong m n i b l (Failed t) e h = sym (past_parts m n i b l _ (sym h))
+  parts_wrong m n i b l (Short p q) e h = sym (past_parts m n i b l _ (sym h))
 
   -- read j of a walk, counted from 0: what is walked before it, and the read
   pub record Nth (j : ℕ) (b : Boundary) (w : Passage) : Type 0 where

@@ -1,15 +1,12 @@
-use mathlib.Core.Path.{◌∙◌, sym, ap}
-use Rattle.reading.specs.Check.{answer_of_outcome}
-use Rattle.reading.proofs.Cut.{answer_plain}
+use Rattle.std.proofs.lemmas.Result.{err_from_is_err_and}
+use Rattle.reading.proofs.Results.{answer_wrong, answer_passed}
 use Rattle.abif.specs.Directory.{opening}
-use Rattle.abif.specs.Answers.{outcome_of_header}
 use Rattle.abif.proofs.directory.open.Goals as goal
 
-pub returns-in-At : goal.returns-in-At
-returns-in-At c = ap answer_of_outcome (sym (ap outcome_of_header c.in-At.is) ∙ c.read_header.ensures) ∙ sym (answer_plain opening _)
+pub returns-in_err-read_header : goal.returns-in_err-read_header
+returns-in_err-read_header c =
+    let p = err_from_is_err_and c.from_residual.result c.from_residual.ensures.1 in
+    rw (p.1, p.2) (answer_wrong opening c.args.s.now _ 0 c.in_err-read_header.ensures)
 
-pub returns-in-Failed : goal.returns-in-Failed
-returns-in-Failed c = ap answer_of_outcome (sym (ap outcome_of_header c.in-Failed.is) ∙ c.read_header.ensures) ∙ sym (answer_plain opening _)
-
-pub returns-in-Short : goal.returns-in-Short
-returns-in-Short c = ap answer_of_outcome (sym (ap outcome_of_header c.in-Short.is) ∙ c.read_header.ensures) ∙ sym (answer_plain opening _)
+pub returns : goal.returns
+returns c = answer_passed opening c.args.s.now _ c.in_ok-read_header.ensures

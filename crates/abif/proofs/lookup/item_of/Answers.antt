@@ -1,19 +1,13 @@
 use mathlib.Core.Path.{◌∙◌, ap}
+use Rattle.std.proofs.lemmas.Result.{err_from_is_err_and}
 use Rattle.reading.specs.Check.{ok}
-use Rattle.abif.proofs.lookup.Laws.{item_bad, item_cut, item_found}
+use Rattle.abif.proofs.lookup.Laws.{item_wrong, item_found}
 use Rattle.abif.proofs.lookup.item_of.Goals as goal
 
-pub returns-in-Failed : goal.returns-in-Failed
-returns-in-Failed c =
-    let g = c.args in
-    item_bad g.s.now g.d _ c.entry_tests.ensures _ c.in-Failed.is
+pub returns-in_err-entry_tests : goal.returns-in_err-entry_tests
+returns-in_err-entry_tests c =
+    let p = err_from_is_err_and c.from_residual.result c.from_residual.ensures.1 in
+    rw (p.1, p.2) (item_wrong c.args.s.now c.args.d _ c.in_err-entry_tests.ensures)
 
-pub returns-in-Short : goal.returns-in-Short
-returns-in-Short c =
-    let g = c.args in
-    item_cut g.s.now g.d _ c.entry_tests.ensures _ _ c.in-Short.is
-
-pub returns-in-At : goal.returns-in-At
-returns-in-At c =
-    let g = c.args in
-    ap ok c.data_of.ensures ∙ item_found g.s.now g.d _ c.entry_tests.ensures _ c.in-At.is
+pub returns : goal.returns
+returns c = ap ok c.data_of.ensures ∙ item_found c.args.s.now c.args.d _ c.in_ok-entry_tests.ensures

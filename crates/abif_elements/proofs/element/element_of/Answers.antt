@@ -1,4 +1,7 @@
-use mathlib.Core.Path.{◌∙◌, sym, ap}
+use mathlib.Core.Path.{◌≡◌}
+use mathlib.Core.Logic.{inl, inr}
+use mathlib.Core.Bool.{false}
+use Rattle.abif.specs.Entry.{type_of}
 use Rattle.abif_elements.specs.Element.{is_listed}
 use Rattle.abif_elements.proofs.element.Laws.{of_raw}
 use Rattle.abif_elements.proofs.element.element_of.Goals as goal
@@ -6,9 +9,5 @@ use Rattle.abif_elements.proofs.element.element_of.Goals as goal
 pub returns-in-Raw : goal.returns-in-Raw
 returns-in-Raw c =
     let g = c.args in
-    of_raw g.s.now g.q g.index (ap is_listed (sym c.type_of.ensures ∙ c.in-Raw.is))
-
-pub returns-in-Unknown : goal.returns-in-Unknown
-returns-in-Unknown c =
-    let g = c.args in
-    of_raw g.s.now g.q g.index (ap is_listed (sym c.type_of.ensures ∙ c.in-Unknown.is))
+    let f : is_listed (type_of g.q.code) ≡ false = rw (← c.type_of.ensures) (elim c.in-Raw.is [ inl a ↦ rw a | inr b ↦ rw b ]) in
+    of_raw g.s.now g.q g.index f

@@ -1,11 +1,21 @@
-use mathlib.Core.Path.{◌≡◌, ◌∙◌}
+use mathlib.Core.Path.{◌≡◌, refl, ◌∙◌, ap}
 use native.Mathlib.Omega.{arith}
 use mir.Syntax.{w32, w64}
 use mir.Val.{to_z, of_z}
 use borrow.Author.Rules.{rules}
-use Rattle.reading.proofs.Signs.{field_is}
+use Rattle.reading.specs.Number.{signed}
+use Rattle.abif.specs.Entry.{type_of}
+use Rattle.reading.proofs.Signs.{cast_is}
 use Rattle.abif_elements.proofs.element.Laws.{value_single, value_double, value_date, value_time, value_thumb, value_bool, value_whole}
 use Rattle.abif_elements.proofs.element.value_at.Goals as goal
+
+pub date_at-requires : goal.date_at-requires
+unfolding type_of
+date_at-requires c = rw c.in-10.is at c.requires
+
+pub time_at-requires : goal.time_at-requires
+unfolding type_of
+time_at-requires c = rw c.in-11.is at c.requires
 
 pub returns-in-7 : goal.returns-in-7
 returns-in-7 c s =
@@ -30,8 +40,8 @@ returns-in-11 c s =
 pub returns-in-12 : goal.returns-in-12
 returns-in-12 c s =
     let g = c.args in
-    let f = field_is w32 4 _ _ _ c.signed32-d.type_inv c.signed32-d.ensures c.be32.ensures in
-    let h = field_is w32 4 _ _ _ c.signed32-u.type_inv c.signed32-u.ensures c.be32-in-12.ensures in
+    let f = cast_is w32 4 c.be32.result _ refl refl (omega arith) c.cast_signed.ensures ∙ ap (signed 4) c.be32.ensures in
+    let h = cast_is w32 4 c.be32-in-12.result _ refl refl (omega arith) c.cast_signed-in-12.ensures ∙ ap (signed 4) c.be32-in-12.ensures in
     rw (f, h, c.byte.ensures, c.byte-in-12.ensures) (value_thumb g.l.now g.p g.code s c.in-12.is)
 
 pub returns-in-13 : goal.returns-in-13

@@ -1,11 +1,11 @@
-use mathlib.Core.Path.{◌∙◌, ap}
+use mathlib.Core.Path.{refl, ◌∙◌, ap}
 use native.Mathlib.Omega.{arith}
 use lib.IntN.{pos}
 use mir.Syntax.{w8, w16, w32, w64}
 use mir.Facts.{to_z_pos}
 use borrow.Author.Rules.{rules}
 use Rattle.reading.specs.Number.{signed}
-use Rattle.reading.proofs.Signs.{widened}
+use Rattle.reading.proofs.Signs.{widened, signed_cast}
 use Rattle.reading.proofs.Width.{be_part}
 use Rattle.abif.specs.Entry.{type_of}
 use Rattle.abif_elements.proofs.element.Laws.{whole_one, whole_char, whole_word, whole_short, whole_long, whole_byte}
@@ -39,7 +39,7 @@ returns-in-1 c =
 pub returns-in-2 : goal.returns-in-2
 returns-in-2 c =
     let g = c.args in
-    widened w8 w64 _ tt (search rules) ∙ c.signed8.ensures ∙ ap (signed 1) (c.byte-in-2.ensures ∙ be_part 1 g.p g.l.now) ∙ whole_char g.l.now g.p g.code c.in-2.is
+    widened w8 w64 _ tt (search rules) ∙ c.cast_signed.ensures ∙ signed_cast w8 1 c.byte-in-2.result refl refl ∙ ap (signed 1) (c.byte-in-2.ensures ∙ be_part 1 g.p g.l.now) ∙ whole_char g.l.now g.p g.code c.in-2.is
 
 pub returns-in-3 : goal.returns-in-3
 returns-in-3 c =
@@ -49,12 +49,12 @@ returns-in-3 c =
 pub returns-in-4 : goal.returns-in-4
 returns-in-4 c =
     let g = c.args in
-    widened w16 w64 _ tt (search rules) ∙ c.signed16.ensures ∙ ap (signed 2) (c.be16-in-4.ensures ∙ be_part 2 g.p g.l.now) ∙ whole_short g.l.now g.p g.code c.in-4.is
+    widened w16 w64 _ tt (search rules) ∙ c.cast_signed-in-4.ensures ∙ signed_cast w16 2 c.be16-in-4.result refl refl ∙ ap (signed 2) (c.be16-in-4.ensures ∙ be_part 2 g.p g.l.now) ∙ whole_short g.l.now g.p g.code c.in-4.is
 
 pub returns-in-5 : goal.returns-in-5
 returns-in-5 c =
     let g = c.args in
-    widened w32 w64 _ tt (search rules) ∙ c.signed32.ensures ∙ ap (signed 4) (c.be32.ensures ∙ be_part 4 g.p g.l.now) ∙ whole_long g.l.now g.p g.code c.in-5.is
+    widened w32 w64 _ tt (search rules) ∙ c.cast_signed-in-5.ensures ∙ signed_cast w32 4 c.be32.result refl refl ∙ ap (signed 4) (c.be32.ensures ∙ be_part 4 g.p g.l.now) ∙ whole_long g.l.now g.p g.code c.in-5.is
 
 pub returns-in_default : goal.returns-in_default
 returns-in_default c =

@@ -5,27 +5,27 @@ use Rattle.abif_elements.proofs.numbers.copy_of_type.Goals as goal
 pub copy-requires : goal.copy-requires
 unfolding type_of
 copy-requires c = let e : c.args.w ≡ 1 = c.requires.0 ∙ rw c.in-1.is in
-    (refl, rw e at c.requires.1, c.requires.2)
+    (refl, rw e at c.requires.1)
 
 pub copy-requires-in-2 : goal.copy-requires-in-2
 unfolding type_of
 copy-requires-in-2 c = let e : c.args.w ≡ 1 = c.requires.0 ∙ rw c.in-2.is in
-    (refl, rw e at c.requires.1, c.requires.2)
+    (refl, rw e at c.requires.1)
 
 pub copy-requires-in-3 : goal.copy-requires-in-3
 unfolding type_of
 copy-requires-in-3 c = let e : c.args.w ≡ 2 = c.requires.0 ∙ rw c.in-3.is in
-    (refl, rw e at c.requires.1, c.requires.2)
+    (refl, rw e at c.requires.1)
 
 pub copy-requires-in-4 : goal.copy-requires-in-4
 unfolding type_of
 copy-requires-in-4 c = let e : c.args.w ≡ 2 = c.requires.0 ∙ rw c.in-4.is in
-    (refl, rw e at c.requires.1, c.requires.2)
+    (refl, rw e at c.requires.1)
 
 pub copy-requires-in-5 : goal.copy-requires-in-5
 unfolding type_of
 copy-requires-in-5 c = let e : c.args.w ≡ 4 = c.requires.0 ∙ rw c.in-5.is in
-    (refl, rw e at c.requires.1, c.requires.2)
+    (refl, rw e at c.requires.1)
 
 pub returns-in-1 : goal.returns-in-1
 unfolding type_of

@@ -1,6 +1,8 @@
 use native.Mathlib.Omega.{arith}
+use Rattle.writing.proofs.Over.{put_digits}
 use Rattle.abif_write.proofs.entry.Laws.{data_put}
 use Rattle.abif_write.proofs.entry.put_data_fields.Goals as goal
 
 pub returns : goal.returns
-returns c = data_put c.args.d _ _ _ _ _ (omega arith) c.put32.ensures c.put32-2.ensures c.put32-3.ensures c.put32-4.ensures
+returns c =
+    data_put c.args.d _ _ _ _ _ (omega arith) (put_digits 4 _ _ _ _ c.to_be_bytes.ensures c.copy.ensures) (put_digits 4 _ _ _ _ c.to_be_bytes-2.ensures c.copy-2.ensures) (put_digits 4 _ _ _ _ c.to_be_bytes-3.ensures c.copy-3.ensures) c.put_zeros.ensures

@@ -1,15 +1,16 @@
+use Rattle.std.proofs.Common.{rules}
 use native.Mathlib.Omega.{arith}
-use Rattle.abif_write.specs.ItemContents.{contents_hold}
+use Rattle.abif_write.specs.ItemContents.{is_date_at, is_time_at, contents_hold}
 use Rattle.abif_write.proofs.item_contents.Laws.{contents_free}
 use Rattle.abif_write.proofs.item_contents.contents_hold.Goals as goal
 
 pub returns-in-10 : goal.returns-in-10
 unfolding contents_hold
-returns-in-10 c = rw c.in-10.is c.dates_hold.ensures
+returns-in-10 c = rw c.in-10.is (c.each_holds.ensures (is_date_at c.args.bytes.now) (λ place r k p. search rules))
 
 pub returns-in-11 : goal.returns-in-11
 unfolding contents_hold
-returns-in-11 c = rw c.in-11.is c.times_hold.ensures
+returns-in-11 c = rw c.in-11.is (c.each_holds-in-11.ensures (is_time_at c.args.bytes.now) (λ place r k p. search rules))
 
 pub returns-in-18 : goal.returns-in-18
 unfolding contents_hold

@@ -1,21 +1,22 @@
-use Prim.Native.Nat.{◌-◌}
-use mathlib.Core.Path.{◌∙◌}
-use native.Mathlib.Omega.{arith}
-use lib.ListN.{length}
-use Rattle.reading.proofs.Tests.{tests}
+use mathlib.Core.Path.{◌∙◌, ap}
+use mathlib.Core.Bool.{not}
+use borrow.Author.Tests.{eq-eqb, ne_eqb}
 use Rattle.contents.specs.Text.{is_cstring}
-use Rattle.contents.proofs.text.Laws.{c_string_on, zero_taken}
+use Rattle.contents.proofs.text.Laws.{c_string_on}
 use Rattle.contents.proofs.text.c_string_holds.Goals as goal
 
-pub returns-then-n-lt1 : goal.returns-then-n-lt1
-unfolding is_cstring
-returns-then-n-lt1 c = search tests
+pub returns-then-last-eq0 : goal.returns-then-last-eq0
+returns-then-last-eq0 c =
+    let e = c.in-Some.ensures in
+    ap not c.has_zero.ensures ∙ rw (eq-eqb _ 0 c.if-last-eq0.true) at (c_string_on _ _ _ e.cases.0)
 
-pub returns-then-byte-ne0 : goal.returns-then-byte-ne0
-unfolding is_cstring
-returns-then-byte-ne0 c = search (tests, ← c.byte.ensures)
+pub returns-else-last-eq0 : goal.returns-else-last-eq0
+returns-else-last-eq0 c =
+    let e = c.in-Some.ensures in
+    ne_eqb _ 0 c.if-last-eq0.false ∙ rw (ne_eqb _ 0 c.if-last-eq0.false) at (c_string_on _ _ _ e.cases.0)
 
-pub returns : goal.returns
-returns c =
-    let l = c.args.bytes.now in
-    c_string_on l _ c.byte.ensures (omega arith) c.if-byte-ne0.false _ (c.has_zero.ensures ∙ zero_taken l (length l - 1) (omega arith))
+pub returns-in-None : goal.returns-in-None
+unfolding is_cstring
+returns-in-None c =
+    let e = c.in-None.ensures in
+    rw e.cases

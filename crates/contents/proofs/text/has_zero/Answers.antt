@@ -1,13 +1,16 @@
 use mathlib.Core.Path.{sym, ◌∙◌}
 use native.Mathlib.Omega.{arith}
-use Rattle.reading.proofs.Loop.{left_next, left_end}
+use Rattle.reading.proofs.Loop.{left_start, left_next, left_end}
 use Rattle.contents.proofs.text.Laws.{zero_on, zero_end}
 use Rattle.contents.proofs.text.has_zero.Goals as goal
 
-pub loop-i-preserved : goal.loop-i-preserved
-loop-i-preserved c =
-    let l = c.loop-i in
-    (omega arith, left_next _ _ _ _ l.invariant.1 _ (zero_on c.args.l.now l.i l.found c.zero_or-found.result c.zero_or-found.ensures))
+pub loop-b-init : goal.loop-b-init
+loop-b-init c = left_start _ _
+
+pub loop-b-preserved : goal.loop-b-preserved
+loop-b-preserved c =
+    let l = c.loop-b in
+    left_next _ _ _ _ l.invariant _ (zero_on c.args.bytes.now l.b-index l.found)
 
 pub returns : goal.returns
-returns c = sym (zero_end c.args.l.now c.loop-i.i c.loop-i.found) ∙ left_end _ _ _ _ c.loop-i.invariant.1 (omega arith) (omega arith)
+returns c = sym (zero_end c.args.bytes.now _ _) ∙ left_end _ _ _ _ c.loop-b.invariant (omega arith) (omega arith)

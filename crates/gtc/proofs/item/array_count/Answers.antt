@@ -15,9 +15,9 @@ returns-then-s-first c = search tests
 pub returns-then-n-ge-NEGATIVE : goal.returns-then-n-ge-NEGATIVE
 returns-then-n-ge-NEGATIVE c =
     let g = c.args in
-    ap (λ (f : Field). failed (record { field = f; rule = NotNegative; number = 9 }) 0) c.count_field.ensures ∙ count_negative g.s.now g.p c.if-s-first.false _ c.le32-n.ensures c.if-n-ge-NEGATIVE.true
+    ap (λ (f : Field). failed (record { field = f; rule = NotNegative; number = 9 }) 0) c.count_field.ensures ∙ count_negative g.s.now g.offset c.if-s-first.false _ c.le32-n.ensures c.if-n-ge-NEGATIVE.true
 
 pub returns : goal.returns
 returns c =
     let g = c.args in
-    count_at g.s.now g.p c.if-s-first.false _ c.le32-n.ensures c.if-n-ge-NEGATIVE.false
+    count_at g.s.now g.offset c.if-s-first.false _ c.le32-n.ensures c.if-n-ge-NEGATIVE.false

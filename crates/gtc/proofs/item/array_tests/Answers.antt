@@ -1,23 +1,15 @@
-use mathlib.Core.Path.{sym, ◌∙◌, ap}
-use Rattle.reading.proofs.Passed.{bind_short, bind_failed, bind_passed}
+use mathlib.Core.Path.{◌∙◌}
+use Rattle.std.proofs.lemmas.Result.{err_from_is_err_and}
+use Rattle.reading.proofs.Results.{run_wrong, run_passed}
 use Rattle.gtc.specs.Item.{shape_check}
-use Rattle.gtc.specs.Answers.{outcome_of_counted}
 use Rattle.gtc.proofs.item.array_tests.Goals as goal
 
-pub returns-in-Short : goal.returns-in-Short
+pub returns-in_err-m : goal.returns-in_err-m
 unfolding shape_check
-returns-in-Short c h n =
-    let s = c.args.s.now in
-    bind_short _ _ s _ 0 (sym c.array_count.ensures ∙ ap outcome_of_counted c.in-Short.is)
+returns-in_err-m c h n =
+    let p = err_from_is_err_and c.from_residual.result c.from_residual.ensures.1 in
+    rw (p.1, p.2) (run_wrong _ _ _ _ 0 c.in_err-m.ensures)
 
-pub returns-in-Failed : goal.returns-in-Failed
+pub returns : goal.returns
 unfolding shape_check
-returns-in-Failed c h n =
-    let s = c.args.s.now in
-    bind_failed _ _ s _ 0 (sym c.array_count.ensures ∙ ap outcome_of_counted c.in-Failed.is)
-
-pub returns-in-Count : goal.returns-in-Count
-unfolding shape_check
-returns-in-Count c h n =
-    let s = c.args.s.now in
-    c.elements_of.ensures ∙ bind_passed _ _ s _ (sym c.array_count.ensures ∙ ap outcome_of_counted c.in-Count.is)
+returns c h n = c.elements_of.ensures ∙ run_passed _ _ _ _ c.in_ok-m.ensures

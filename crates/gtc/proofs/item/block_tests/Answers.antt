@@ -3,9 +3,9 @@ use Rattle.reading.proofs.Tests.{tests}
 use Rattle.gtc.specs.Item.{shape_check}
 use Rattle.gtc.proofs.item.block_tests.Goals as goal
 
-pub returns-then-s-e : goal.returns-then-s-e
+pub returns-then-s-end : goal.returns-then-s-end
 unfolding shape_check run
-returns-then-s-e c h n = search tests
+returns-then-s-end c h n = search tests
 
 pub returns : goal.returns
 unfolding shape_check run

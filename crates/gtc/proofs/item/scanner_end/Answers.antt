@@ -1,25 +1,15 @@
-use mathlib.Core.Path.{sym, ◌∙◌, ap}
-use Rattle.reading.proofs.Passed.{bind_failed, bind_short, bind_passed}
+use mathlib.Core.Path.{◌∙◌}
+use Rattle.std.proofs.lemmas.Result.{err_from_is_err_and}
+use Rattle.reading.proofs.Results.{run_wrong, run_passed}
 use Rattle.gtc.specs.Item.{scanner_rest, scanner_end}
-use Rattle.reading.specs.Answers.{outcome_of_ended}
 use Rattle.gtc.proofs.item.scanner_end.Goals as goal
 
-pub returns-in-Failed-clause-result_value : goal.returns-in-Failed-clause-result_value
+pub returns-in_err-green-clause-result_value : goal.returns-in_err-green-clause-result_value
 unfolding scanner_end
-returns-in-Failed-clause-result_value c =
-    let g = c.args in
-    bind_failed _ scanner_rest g.s.now _ 0 (sym c.string_end.ensures.result_value ∙ ap outcome_of_ended c.in-Failed.is)
+returns-in_err-green-clause-result_value c =
+    let p = err_from_is_err_and c.from_residual.result c.from_residual.ensures.1 in
+    rw (p.1, p.2) (run_wrong _ _ scanner_rest _ 0 c.in_err-green.ensures.result_value)
 
-pub returns-in-Short-clause-result_value : goal.returns-in-Short-clause-result_value
+pub returns-clause-result_value : goal.returns-clause-result_value
 unfolding scanner_end
-returns-in-Short-clause-result_value c =
-    let g = c.args in
-    bind_short _ scanner_rest g.s.now _ 0 (sym c.string_end.ensures.result_value ∙ ap outcome_of_ended c.in-Short.is)
-
-pub returns-in-At-clause-result_value : goal.returns-in-At-clause-result_value
-unfolding scanner_end
-returns-in-At-clause-result_value c =
-    let g = c.args in
-    let u = ap outcome_of_ended c.in-At.is in
-    let b = c.string_end.ensures.end_in_bounds _ u in
-    c.scanner_rest.ensures.result_value ∙ bind_passed _ scanner_rest g.s.now _ (sym c.string_end.ensures.result_value ∙ u)
+returns-clause-result_value c = c.scanner_rest.ensures.result_value ∙ run_passed _ _ scanner_rest _ c.in_ok-green.ensures.result_value

@@ -1,30 +1,22 @@
-use mathlib.Core.Path.{sym, ◌∙◌, ap}
-use Rattle.reading.specs.Answers.{outcome_of_tested}
-use Rattle.reading.proofs.Passed.{bind_short, bind_failed, bind_passed}
+use mathlib.Core.Path.{◌∙◌}
+use Rattle.std.proofs.lemmas.Result.{err_from_is_err_and}
+use Rattle.reading.proofs.Results.{run_wrong, run_tested, run_passed}
 use Rattle.gtc.specs.Item.{shape_check}
-use Rattle.gtc.specs.Answers.{outcome_of_counted}
 use Rattle.gtc.proofs.item.snp_array_tests.Goals as goal
 
-pub returns-in-Failed-snp_tests : goal.returns-in-Failed-snp_tests
+pub returns-in_err-m : goal.returns-in_err-m
 unfolding shape_check
-returns-in-Failed-snp_tests c =
-    let s = c.args.s.now in
-    bind_failed _ _ s _ 0 (sym (c.snp_tests.ensures s) ∙ ap outcome_of_tested c.in-Failed-snp_tests.is) ∙ bind_passed _ _ s _ (sym c.array_count.ensures ∙ ap outcome_of_counted c.in-Count.is)
+returns-in_err-m c =
+    let p = err_from_is_err_and c.from_residual.result c.from_residual.ensures.1 in
+    rw (p.1, p.2) (run_wrong _ _ _ _ 0 c.in_err-m.ensures)
 
-pub returns-in-Short : goal.returns-in-Short
+pub returns-in_err-snp_tests : goal.returns-in_err-snp_tests
 unfolding shape_check
-returns-in-Short c =
-    let s = c.args.s.now in
-    bind_short _ _ s _ 0 (sym c.array_count.ensures ∙ ap outcome_of_counted c.in-Short.is)
+returns-in_err-snp_tests c =
+    let p = err_from_is_err_and c.from_residual-in_err-snp_tests.result c.from_residual-in_err-snp_tests.ensures.1 in
+    rw (p.1, p.2) (run_tested _ _ _ _ (c.in_err-snp_tests.ensures c.args.s.now) ∙ run_passed _ _ _ _ c.in_ok-m.ensures)
 
-pub returns-in-Failed : goal.returns-in-Failed
+pub returns : goal.returns
 unfolding shape_check
-returns-in-Failed c =
-    let s = c.args.s.now in
-    bind_failed _ _ s _ 0 (sym c.array_count.ensures ∙ ap outcome_of_counted c.in-Failed.is)
-
-pub returns-in_default : goal.returns-in_default
-unfolding shape_check
-returns-in_default c =
-    let s = c.args.s.now in
-    c.elements_of.ensures ∙ bind_passed _ _ s _ (sym (c.snp_tests.ensures s) ∙ ap outcome_of_tested c.in_default.is) ∙ bind_passed _ _ s _ (sym c.array_count.ensures ∙ ap outcome_of_counted c.in-Count.is)
+returns c =
+    c.elements_of.ensures ∙ run_passed _ _ _ _ (c.in_ok-snp_tests.ensures c.args.s.now) ∙ run_passed _ _ _ _ c.in_ok-m.ensures

@@ -1,13 +1,15 @@
-use mathlib.Core.Path.{sym, ◌∙◌, ap}
-use Rattle.reading.proofs.Passed.{bind_failed, bind_passed}
-use Rattle.gtc.specs.Answers.{outcome_of_entry_found}
+use mathlib.Core.Path.{◌∙◌}
+use Rattle.std.proofs.lemmas.Result.{err_from_is_err_and}
+use Rattle.reading.proofs.Results.{run_tested, run_passed}
 use Rattle.gtc.specs.Item.{snp_check}
 use Rattle.gtc.proofs.item.snp_tests.Goals as goal
 
-pub returns-in-Failed : goal.returns-in-Failed
+pub returns-in_err-snps : goal.returns-in_err-snps
 unfolding snp_check
-returns-in-Failed c l = bind_failed _ _ l _ 0 (sym (c.entry_with.ensures l) ∙ ap outcome_of_entry_found c.in-Failed.is)
+returns-in_err-snps c l =
+    let p = err_from_is_err_and c.from_residual.result c.from_residual.ensures.1 in
+    rw (p.1, p.2) (run_tested _ _ _ _ (c.in_err-snps.ensures l))
 
-pub returns-in-At : goal.returns-in-At
+pub returns : goal.returns
 unfolding snp_check
-returns-in-At c l = c.count_tests.ensures l ∙ bind_passed _ _ l _ (sym (c.entry_with.ensures l) ∙ ap outcome_of_entry_found c.in-At.is)
+returns c l = c.count_tests.ensures l ∙ run_passed _ _ _ _ (c.in_ok-snps.ensures l)

@@ -1,25 +1,17 @@
 use mathlib.Core.Path.{sym, ◌∙◌, ap}
+use Rattle.std.proofs.lemmas.Result.{err_from_is_err_and}
 use Rattle.reading.specs.Check.{passed}
 use Rattle.reading.proofs.Steps.{run_done}
-use Rattle.reading.proofs.Passed.{bind_failed, bind_short, bind_passed}
+use Rattle.reading.proofs.Results.{run_wrong, run_passed}
 use Rattle.gtc.specs.Item.{shape_check}
-use Rattle.reading.specs.Answers.{outcome_of_ended}
 use Rattle.gtc.proofs.item.text_tests.Goals as goal
 
-pub returns-in-Failed : goal.returns-in-Failed
+pub returns-in_err-end : goal.returns-in_err-end
 unfolding shape_check
-returns-in-Failed c h n =
-    let s = c.args.s.now in
-    bind_failed _ _ s _ 0 (sym c.string_end.ensures.result_value ∙ ap outcome_of_ended c.in-Failed.is)
+returns-in_err-end c h n =
+    let p = err_from_is_err_and c.from_residual.result c.from_residual.ensures.1 in
+    rw (p.1, p.2) (run_wrong _ _ _ _ 0 c.in_err-end.ensures.result_value)
 
-pub returns-in-Short : goal.returns-in-Short
+pub returns : goal.returns
 unfolding shape_check
-returns-in-Short c h n =
-    let s = c.args.s.now in
-    bind_short _ _ s _ 0 (sym c.string_end.ensures.result_value ∙ ap outcome_of_ended c.in-Short.is)
-
-pub returns-in-At : goal.returns-in-At
-unfolding shape_check
-returns-in-At c h n =
-    let s = c.args.s.now in
-    ap passed c.item_up_to.ensures ∙ sym (run_done _ s) ∙ bind_passed _ _ s _ (sym c.string_end.ensures.result_value ∙ ap outcome_of_ended c.in-At.is)
+returns c h n = ap passed c.item_up_to.ensures ∙ sym (run_done _ _) ∙ run_passed _ _ _ _ c.in_ok-end.ensures.result_value

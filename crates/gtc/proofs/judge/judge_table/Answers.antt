@@ -1,14 +1,21 @@
-use mathlib.Core.Path.{sym, ◌∙◌, ap}
-use Rattle.reading.specs.Answers.{answer_of_verdict}
-use Rattle.gtc.proofs.judge.Laws.{table_whole, table_refused}
+use mathlib.Core.Path.{ap}
+use Rattle.std.proofs.lemmas.Result.{err_from_is_err_and}
+use Rattle.reading.proofs.Results.{run_wrong}
+use Rattle.reading.proofs.Tail.{verdict_refused, verdict_whole}
+use Rattle.reading.specs.declared.verdict.Whole.{Whole}
+use Rattle.gtc.proofs.judge.Laws.{table_whole}
+use Rattle.gtc.specs.Judge.{judge_table, extent_of}
 use Rattle.gtc.proofs.judge.judge_table.Goals as goal
 
-pub returns-in-Whole : goal.returns-in-Whole
-returns-in-Whole c =
-    let g = c.args in
-    table_whole g.s.now g.h.now g.n _ c.explain_entries.ensures _ _ _ (sym c.verdict_of.ensures ∙ ap answer_of_verdict c.in-Whole.is) c.unjudged_among.ensures
+pub returns-in_err-extent : goal.returns-in_err-extent
+unfolding judge_table
+returns-in_err-extent c =
+    let p = err_from_is_err_and c.from_residual.result c.from_residual.ensures.1 in
+    rw (p.1, p.2) (verdict_refused _ extent_of _ _ _ (run_wrong _ _ _ _ _ c.in_err-extent.ensures))
 
-pub returns-in-Refused : goal.returns-in-Refused
-returns-in-Refused c =
+pub returns : goal.returns
+unfolding judge_table
+returns c =
     let g = c.args in
-    table_refused g.s.now g.h.now g.n _ c.explain_entries.ensures _ _ (sym c.verdict_of.ensures ∙ ap answer_of_verdict c.in-Refused.is)
+    let w = ap (λ (w : Whole). w.tail) c.new-whole.ensures in
+    rw w (verdict_whole (judge_table g.t.up_to.now g.t.count) extent_of g.s.now _ (table_whole g.s.now g.t.up_to.now g.t.count _ _ c.in_ok-extent.ensures c.unjudged_among.ensures))

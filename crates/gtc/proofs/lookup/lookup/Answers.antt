@@ -1,38 +1,20 @@
 use mathlib.Core.Path.{◌∙◌}
-use native.Mathlib.Omega.{arith}
-use lib.ListN.{length-take}
+use Rattle.std.proofs.lemmas.Result.{err_from_is_err_and}
+use Rattle.reading.proofs.Results.{answer_wrong_behind, answer_passed, answer_ok}
+use Rattle.gtc.specs.Table.{Table, table}
 use Rattle.gtc.specs.Lookup.{lookup_in, looking_up}
-use Rattle.gtc.proofs.table.Laws.{table_at, count_known, after_failed, after_short, after_count}
 use Rattle.gtc.proofs.lookup.lookup.Goals as goal
 
-pub slice_bounds-lookup_in-end : goal.slice_bounds-lookup_in-end
-slice_bounds-lookup_in-end c =
-    let s = c.args.s.now in
-    let e = c.table_end-end.ensures in
-    let w = table_at s _ (count_known s _ c.read_table.ensures _ c.in-Count.is) in
-    simp length-take (omega arith)
-
-pub lookup_in-requires : goal.lookup_in-requires
-lookup_in-requires c =
-    let s = c.args.s.now in
-    let e = c.table_end-end.ensures in
-    let w = table_at s _ (count_known s _ c.read_table.ensures _ c.in-Count.is) in
-    simp length-take (omega arith)
-
-pub returns-in-Failed : goal.returns-in-Failed
+pub returns-in_err-t : goal.returns-in_err-t
 unfolding looking_up
-returns-in-Failed c =
+returns-in_err-t c =
     let g = c.args in
-    after_failed g.s.now _ c.read_table.ensures (λ t. lookup_in t.up_to t.count g.id) _ c.in-Failed.is
+    let p = err_from_is_err_and c.from_residual.result c.from_residual.ensures.1 in
+    rw (p.1, p.2) (answer_wrong_behind table _ (λ (t : Table). lookup_in t.up_to t.count g.id) _ 0 c.in_err-t.ensures)
 
-pub returns-in-Short : goal.returns-in-Short
+pub returns : goal.returns
 unfolding looking_up
-returns-in-Short c =
+returns c =
     let g = c.args in
-    after_short g.s.now _ c.read_table.ensures (λ t. lookup_in t.up_to t.count g.id) _ _ c.in-Short.is
-
-pub returns-in-Count : goal.returns-in-Count
-unfolding looking_up
-returns-in-Count c =
-    let g = c.args in
-    c.lookup_in.ensures ∙ after_count g.s.now _ c.read_table.ensures (λ t. lookup_in t.up_to t.count g.id) _ c.in-Count.is _ c.table_end-end.ensures
+    let s = g.s.now in
+    c.lookup_in.ensures ∙ answer_ok table s (λ (t : Table). lookup_in t.up_to t.count g.id) _ (answer_passed table s _ c.in_ok-t.ensures)

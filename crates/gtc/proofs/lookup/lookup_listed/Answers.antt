@@ -1,39 +1,25 @@
-use native.Mathlib.Omega.{arith}
-use mathlib.Core.Path.{sym, ◌∙◌, ap}
-use Rattle.reading.specs.Check.{answer_of_outcome}
-use Rattle.reading.proofs.Cut.{answer_plain, run_ok}
-use Rattle.reading.proofs.Passed.{bind_failed, bind_passed}
-use Rattle.gtc.specs.Answers.{outcome_of_entry_found, outcome_of_item_read}
+use mathlib.Core.Path.{◌∙◌}
+use Rattle.std.proofs.lemmas.Result.{err_from_is_err_and}
+use Rattle.reading.specs.declared.check.Failure.TheVariants.{Failed}
+use Rattle.reading.proofs.Results.{answer_wrong, answer_wrong_behind, answer_passed, answer_ok}
 use Rattle.gtc.specs.Lookup.{lookup_listed}
-use Rattle.gtc.proofs.lookup.Laws.{found_place}
 use Rattle.gtc.proofs.lookup.lookup_listed.Goals as goal
 
-pub item_tests-requires : goal.item_tests-requires
-item_tests-requires c =
-    let g = c.args in
-    let p = found_place g.s.now g.h.now g.n g.id _ (run_ok _ g.s.now _ (sym (c.entry_with.ensures g.s.now) ∙ ap outcome_of_entry_found c.in-At.is)) in
-    (omega arith, omega arith)
-
-pub returns-in-Failed : goal.returns-in-Failed
+pub returns-in_err-d : goal.returns-in_err-d
 unfolding lookup_listed
-returns-in-Failed c =
-    let s = c.args.s.now in
-    ap answer_of_outcome (bind_failed _ _ s _ 0 (sym (c.entry_with.ensures s) ∙ ap outcome_of_entry_found c.in-Failed.is)) ∙ sym (answer_plain _ s)
+returns-in_err-d c =
+    let p = err_from_is_err_and c.from_residual.result c.from_residual.ensures.1 in
+    rw (p.1, p.2) (answer_wrong_behind _ _ _ (Failed _) 0 (c.in_err-d.ensures c.args.s.now))
 
-pub returns-in-Failed-item_tests : goal.returns-in-Failed-item_tests
+pub returns-in_err-item_tests : goal.returns-in_err-item_tests
 unfolding lookup_listed
-returns-in-Failed-item_tests c =
+returns-in_err-item_tests c =
     let s = c.args.s.now in
-    ap answer_of_outcome (sym (ap outcome_of_item_read c.in-Failed-item_tests.is) ∙ c.item_tests.ensures ∙ bind_passed _ _ s _ (sym (c.entry_with.ensures s) ∙ ap outcome_of_entry_found c.in-At.is)) ∙ sym (answer_plain _ s)
+    let p = err_from_is_err_and c.from_residual-in_err-item_tests.result c.from_residual-in_err-item_tests.ensures.1 in
+    rw (p.1, p.2) (answer_wrong _ s _ 0 c.in_err-item_tests.ensures ∙ answer_ok _ s _ _ (answer_passed _ s _ (c.in_ok-d.ensures s)))
 
-pub returns-in-Short : goal.returns-in-Short
+pub returns : goal.returns
 unfolding lookup_listed
-returns-in-Short c =
+returns c =
     let s = c.args.s.now in
-    ap answer_of_outcome (sym (ap outcome_of_item_read c.in-Short.is) ∙ c.item_tests.ensures ∙ bind_passed _ _ s _ (sym (c.entry_with.ensures s) ∙ ap outcome_of_entry_found c.in-At.is)) ∙ sym (answer_plain _ s)
-
-pub returns-in-At-item_tests : goal.returns-in-At-item_tests
-unfolding lookup_listed
-returns-in-At-item_tests c =
-    let s = c.args.s.now in
-    ap answer_of_outcome (sym (ap outcome_of_item_read c.in-At-item_tests.is) ∙ c.item_tests.ensures ∙ bind_passed _ _ s _ (sym (c.entry_with.ensures s) ∙ ap outcome_of_entry_found c.in-At.is)) ∙ sym (answer_plain _ s)
+    answer_passed _ s _ c.in_ok-item_tests.ensures ∙ answer_ok _ s _ _ (answer_passed _ s _ (c.in_ok-d.ensures s))

@@ -1,24 +1,23 @@
-use mathlib.Core.Path.{◌∙◌, sym, ap}
-use Rattle.reading.proofs.Passed.{bind_refused, bind_answered}
+use mathlib.Core.Path.{◌∙◌, sym}
+use Rattle.std.proofs.lemmas.Result.{err_from_is_err_and}
+use Rattle.reading.proofs.Results.{answer_refused, answer_ok}
 use Rattle.gtc.specs.Item.{normalization_transformations_id}
-use Rattle.gtc.specs.Lookup.{looking_up}
-use Rattle.reading.specs.Answers.{answer_of_found}
 use Rattle.gtc_records.specs.Transformation.{transformation_of, transformation_reading}
 use Rattle.gtc.proofs.lookup.Laws.{lookup_within}
 use Rattle.gtc_records.proofs.transformation.read_transformation.Goals as goal
 
+pub returns-in_err-q : goal.returns-in_err-q
+unfolding transformation_reading
+returns-in_err-q c =
+    let g = c.args in
+    let p = err_from_is_err_and c.from_residual.result c.from_residual.ensures.1 in
+    rw (p.1, p.2) (answer_refused _ _ (λ q. transformation_of q g.k) _ 0 c.in_err-q.ensures)
+
 pub transformation_of-requires : goal.transformation_of-requires
-transformation_of-requires c =
-    lookup_within normalization_transformations_id c.args.s.now _ (sym c.lookup.ensures ∙ ap answer_of_found c.in-Data.is)
+transformation_of-requires c = lookup_within normalization_transformations_id c.args.s.now _ (sym c.in_ok-q.ensures)
 
-pub returns-in-Refused : goal.returns-in-Refused
+pub returns : goal.returns
 unfolding transformation_reading
-returns-in-Refused c =
+returns c =
     let g = c.args in
-    bind_refused (looking_up normalization_transformations_id) (λ q. transformation_of q g.k) g.s.now _ 0 (sym c.lookup.ensures ∙ ap answer_of_found c.in-Refused.is)
-
-pub returns-in-Data : goal.returns-in-Data
-unfolding transformation_reading
-returns-in-Data c =
-    let g = c.args in
-    c.transformation_of.ensures ∙ bind_answered (looking_up normalization_transformations_id) (λ q. transformation_of q g.k) g.s.now _ (sym c.lookup.ensures ∙ ap answer_of_found c.in-Data.is)
+    c.transformation_of.ensures ∙ answer_ok _ _ (λ q. transformation_of q g.k) _ c.in_ok-q.ensures

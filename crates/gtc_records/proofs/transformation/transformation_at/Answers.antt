@@ -1,5 +1,7 @@
 use mir.Syntax.{w32}
-use Rattle.reading.proofs.Signs.{field_is}
+use mathlib.Core.Path.{refl, ◌∙◌, ap}
+use Rattle.reading.specs.Number.{signed}
+use Rattle.reading.proofs.Signs.{cast_is}
 use Rattle.gtc_records.specs.Transformation.{transformation_at}
 use Rattle.gtc_records.proofs.transformation.transformation_at.Goals as goal
 
@@ -7,7 +9,7 @@ pub returns : goal.returns
 unfolding transformation_at
 returns c =
     λ i. record {
-      version = field_is w32 4 _ _ _ c.signed32.type_inv c.signed32.ensures c.le32.ensures i;
+      version = (cast_is w32 4 _ _ refl refl c.le32.type_inv c.cast_signed.ensures ∙ ap (signed 4) c.le32.ensures) i;
       offset_x = c.float_at.ensures i;
       offset_y = c.float_at-2.ensures i;
       scale_x = c.float_at-3.ensures i;

@@ -6,15 +6,13 @@ use Rattle.reading.proofs.Tests.{tests}
 use Rattle.sff.specs.Flow.{flow_of}
 use Rattle.contents.proofs.steps.Laws.{sum_whole}
 use Rattle.sff.proofs.flow.Laws.{flow_found}
+use Rattle.sff.proofs.flow.flow_in.Goals.{then-i-lt1-via-then-i-lt1, then-i-lt1-via-else-i-lt1+then-r-i}
 use Rattle.sff.proofs.flow.flow_in.Goals as goal
 
 pub returns-then-i-lt1 : goal.returns-then-i-lt1
 unfolding flow_of answer
-returns-then-i-lt1 c = search tests
-
-pub returns-then-r-i : goal.returns-then-r-i
-unfolding flow_of answer
-returns-then-r-i c = search tests
+returns-then-i-lt1 c =
+    elim c.then-i-lt1.branch [ then-i-lt1-via-then-i-lt1 w ↦ search tests | then-i-lt1-via-else-i-lt1+then-r-i w ↦ search tests ]
 
 pub returns : goal.returns
 returns c =

@@ -1,7 +1,12 @@
-use mathlib.Core.Path.{◌∙◌}
-use Rattle.reading.proofs.Tail.{verdict_explained}
-use Rattle.sff.specs.Judge.{judging}
+use Rattle.std.proofs.lemmas.Result.{err_from_is_err_and}
+use Rattle.reading.proofs.Tail.{verdict_refused, verdict_whole}
+use Rattle.sff.specs.Judge.{judging, extent_of}
 use Rattle.sff.proofs.judge.judge.Goals as goal
 
+pub returns-in_err-extent : goal.returns-in_err-extent
+returns-in_err-extent c =
+    let p = err_from_is_err_and c.from_residual.result c.from_residual.ensures.1 in
+    rw (p.1, p.2) (verdict_refused judging extent_of c.args.s.now _ _ c.in_err-extent.ensures)
+
 pub returns : goal.returns
-returns c = c.verdict_of.ensures ∙ verdict_explained judging c.args.s.now _ c.explain.ensures
+returns c = rw c.new.ensures (verdict_whole judging extent_of c.args.s.now _ c.in_ok-extent.ensures)

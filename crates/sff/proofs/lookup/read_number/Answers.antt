@@ -1,23 +1,23 @@
-use mathlib.Core.Path.{◌∙◌, sym, ap}
-use Rattle.reading.proofs.Passed.{bind_refused, bind_answered}
+use mathlib.Core.Path.{◌∙◌, sym}
+use Rattle.std.proofs.lemmas.Result.{err_from_is_err_and}
+use Rattle.reading.proofs.Results.{answer_refused, answer_ok}
 use Rattle.sff.specs.Header.{header}
-use Rattle.sff.specs.Answers.{answer_of_header_found}
 use Rattle.sff.specs.Lookup.{read_in, read_reading}
 use Rattle.sff.proofs.header.Laws.{header_there}
 use Rattle.sff.proofs.lookup.read_number.Goals as goal
 
-pub read_in-requires : goal.read_in-requires
-read_in-requires c =
-    header_there c.args.s.now _ (sym c.read_fields.ensures ∙ ap answer_of_header_found c.in-At.is)
+pub invariant_of-read_in : goal.invariant_of-read_in
+invariant_of-read_in c = record { present = header_there c.args.s.now _ (sym c.in_ok-header.ensures) }
 
-pub returns-in-Refused : goal.returns-in-Refused
+pub returns-in_err-header : goal.returns-in_err-header
 unfolding read_reading
-returns-in-Refused c =
+returns-in_err-header c =
     let g = c.args in
-    bind_refused header (λ d. read_in d g.k) g.s.now _ 0 (sym c.read_fields.ensures ∙ ap answer_of_header_found c.in-Refused.is)
+    let p = err_from_is_err_and c.from_residual.result c.from_residual.ensures.1 in
+    rw (p.1, p.2) (answer_refused header g.s.now (λ d. read_in d g.k) _ 0 c.in_err-header.ensures)
 
-pub returns-in-At : goal.returns-in-At
+pub returns : goal.returns
 unfolding read_reading
-returns-in-At c =
+returns c =
     let g = c.args in
-    c.read_in.ensures ∙ bind_answered header (λ d. read_in d g.k) g.s.now _ (sym c.read_fields.ensures ∙ ap answer_of_header_found c.in-At.is)
+    c.read_in.ensures ∙ answer_ok header g.s.now (λ d. read_in d g.k) _ c.in_ok-header.ensures

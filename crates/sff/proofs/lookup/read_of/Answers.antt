@@ -1,6 +1,5 @@
 use Prim.Native.Nat.{◌+◌}
-use mathlib.Core.Path.{◌∙◌, ap}
-use Rattle.reading.specs.Part.{Span}
+use mathlib.Core.Path.{◌∙◌}
 use Rattle.sff_fields.specs.Read.{flows_start, steps_start, letters_start, qualities_start}
 use Rattle.sff_fields.specs.Parts.{read_of}
 use Rattle.sff.proofs.lookup.Laws.{insert_of}
@@ -11,7 +10,7 @@ unfolding read_of
 returns c =
     let g = c.args in
     let d = g.d in
-    let q = insert_of g.flows d _ _ c.first_base-first.ensures c.last_base-last.ensures in
+    let q = c.insert_from-insert.ensures ∙ insert_of g.flows d _ _ c.first_base-first.ensures c.last_base-last.ensures in
     λ i. record {
       start = d.start;
       name_start = d.start + 16;
@@ -28,6 +27,6 @@ returns c =
       qualities_start = qualities_start g.flows d;
       first = record { 0 = c.first_base-first.ensures i };
       last = record { 0 = c.last_base-last.ensures i };
-      insert_start = (c.insert_from-insert.ensures.0 ∙ ap (λ (x : Span). x.start) q) i;
-      insert_length = (c.insert_from-insert.ensures.1 ∙ ap (λ (x : Span). x.size) q) i;
+      insert_start = (q i).start;
+      insert_length = (q i).size;
     }

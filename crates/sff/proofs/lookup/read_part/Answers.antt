@@ -1,13 +1,10 @@
-use mathlib.Core.Path.{◌∙◌, sym, ap}
+use mathlib.Core.Path.{sym}
 use Rattle.reading.specs.Part.{shown}
-use Rattle.sff_fields.specs.Answers.{answer_of_read_found}
-use Rattle.sff_fields.specs.Parts.{span_of}
-use Rattle.sff.proofs.lookup.Laws.{number_fits, part_placed}
+use Rattle.reading.proofs.Parts.{part_there}
+use Rattle.sff.proofs.lookup.Laws.{number_fits}
 use Rattle.sff.proofs.lookup.read_part.Goals as goal
 
-pub returns-in-At : goal.returns-in-At
-returns-in-At c =
+pub returns : goal.returns
+returns c =
     let g = c.args in
-    let r = c.in-At.r in
-    let w = number_fits g.s.now g.k r (sym c.read_number.ensures ∙ ap answer_of_read_found c.in-At.is) g.which in
-    c.part-in-At.ensures ∙ part_placed (shown g.s) _ _ (span_of g.which r) c.place_of-q.ensures w ∙ rw (← c.read_number.ensures, c.in-At.is)
+    rw (c.part-2.ensures, c.span_of-q.ensures, ← c.in-Ok.ensures) (part_there (shown g.s) _ _ (number_fits g.s.now g.k c.in-Ok.r (sym c.in-Ok.ensures) g.which))

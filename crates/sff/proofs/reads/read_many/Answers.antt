@@ -1,30 +1,31 @@
-use mathlib.Core.Path.{sym, ◌∙◌, ap}
+use mathlib.Core.Path.{sym, ◌∙◌}
 use lib.ListN.{length}
-use Rattle.reading.proofs.Passed.{bind_refused, bind_answered}
+use Rattle.std.proofs.lemmas.Result.{err_from_is_err_and}
+use Rattle.reading.proofs.Results.{answer_refused, answer_ok}
 use Rattle.sff.specs.Header.{header}
-use Rattle.sff.specs.Answers.{answer_of_header_found}
 use Rattle.sff.specs.Reads.{reads_in, reads_reading}
 use Rattle.sff.proofs.header.Laws.{header_there}
 use Rattle.sff.proofs.reads.read_many.Goals as goal
 
-pub reads_in-requires : goal.reads_in-requires
-reads_in-requires c = header_there _ _ (sym c.read_fields.ensures ∙ ap answer_of_header_found c.in-At.is)
+pub invariant_of-reads_in : goal.invariant_of-reads_in
+invariant_of-reads_in c = record { present = header_there _ _ (sym c.in_ok-header.ensures) }
 
-pub returns-in-Refused : goal.returns-in-Refused
+pub returns-in_err-header : goal.returns-in_err-header
 unfolding reads_reading
-returns-in-Refused c =
+returns-in_err-header c =
     let g = c.args in
-    let e = bind_refused header (λ d. reads_in d g.first (length g.out.now)) g.s.now _ 0 (sym c.read_fields.ensures ∙ ap answer_of_header_found c.in-Refused.is) in
+    let p = err_from_is_err_and c.from_residual.result c.from_residual.ensures.1 in
+    let e = answer_refused header g.s.now (λ d. reads_in d g.first (length g.out.now)) _ 0 c.in_err-header.ensures in
     record {
-      result_value = rw (← e);
+      result_value = rw (p.1, p.2, ← e);
       out_after = rw (← e);
     }
 
-pub returns-in-At : goal.returns-in-At
+pub returns : goal.returns
 unfolding reads_reading
-returns-in-At c =
+returns c =
     let g = c.args in
-    let e = bind_answered header (λ d. reads_in d g.first (length g.out.now)) g.s.now _ (sym c.read_fields.ensures ∙ ap answer_of_header_found c.in-At.is) in
+    let e = answer_ok header g.s.now (λ d. reads_in d g.first (length g.out.now)) _ c.in_ok-header.ensures in
     record {
       result_value = c.reads_in.ensures.result_value ∙ rw e;
       out_after = c.reads_in.ensures.out_after ∙ rw e;

@@ -1,5 +1,7 @@
+use Rattle.writing.proofs.Over.{put_digits}
 use Rattle.sff_write.proofs.header.Laws.{lengths_put}
 use Rattle.sff_write.proofs.header.put_lengths.Goals as goal
 
 pub returns : goal.returns
-returns c = lengths_put _ _ _ _ _ _ _ c.requires c.put16.ensures c.put16-2.ensures c.put16-3.ensures c.put8.ensures
+returns c =
+    lengths_put _ _ _ _ _ _ _ c.requires (put_digits 2 _ _ _ _ c.to_be_bytes.ensures c.copy.ensures) (put_digits 2 _ _ _ _ c.to_be_bytes-2.ensures c.copy-2.ensures) (put_digits 2 _ _ _ _ c.to_be_bytes-3.ensures c.copy-3.ensures) (put_digits 1 _ _ _ _ c.to_be_bytes-4.ensures c.copy-4.ensures)

@@ -7,19 +7,17 @@ use Rattle.sff_write.specs.Write.{beginning}
 use Rattle.sff_write.proofs.read.Laws.{size_is}
 use Rattle.sff_write.proofs.write.Laws.{told_refused, begin_flows, begin_key, begin_size, begin_room, begin_written}
 use Rattle.sff_write.proofs.write.begin.Goals as goal
+use Rattle.sff_write.proofs.write.begin.Goals.{then-n-gt65535-via-then-n-gt65535, then-n-gt65535-via-else-n-gt65535+then-k-gt65535}
 
 pub returns-then-n-gt65535 : goal.returns-then-n-gt65535
 returns-then-n-gt65535 c =
     let g = c.args in
     let a = answer (beginning g.reads g.letters.now g.key.now (length g.out.now)) [] in
-    let t = told_refused a 0 g.out.now 9 (begin_flows _ g.letters.now g.key.now _ c.if-n-gt65535.true) in
-    record { result_value = t.0; out_after = t.1 }
-
-pub returns-then-k-gt65535 : goal.returns-then-k-gt65535
-returns-then-k-gt65535 c =
-    let g = c.args in
-    let a = answer (beginning g.reads g.letters.now g.key.now (length g.out.now)) [] in
-    let t = told_refused a 0 g.out.now 9 (begin_key _ g.letters.now g.key.now _ c.if-n-gt65535.false c.if-k-gt65535.true) in
+    let t = told_refused a 0 g.out.now 9
+    (elim c.then-n-gt65535.branch [
+      | then-n-gt65535-via-then-n-gt65535 w ↦ begin_flows _ g.letters.now g.key.now _ w.if-n-gt65535.true
+      | then-n-gt65535-via-else-n-gt65535+then-k-gt65535 w ↦ begin_key _ g.letters.now g.key.now _ w.if-n-gt65535.false w.if-k-gt65535.true
+    ]) in
     record { result_value = t.0; out_after = t.1 }
 
 pub returns-then-size-gt65535 : goal.returns-then-size-gt65535

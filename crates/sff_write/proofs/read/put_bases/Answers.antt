@@ -1,5 +1,0 @@
-use Rattle.sff_write.proofs.read.Laws.{bases_put}
-use Rattle.sff_write.proofs.read.put_bases.Goals as goal
-
-pub returns : goal.returns
-returns c = bases_put _ _ _ _ c.args.p c.args.steps.now c.args.letters.now c.args.qualities.now c.args.zeros c.copy.ensures c.copy-2.ensures c.copy-3.ensures c.put_zeros.ensures c.requires
