@@ -1,10 +1,10 @@
-// What the programs share: reading an input into a buffer that is lent, and showing a part of it.
+// What the programs share: reading an input into a buffer that is lent.
 #![tactic(auto)]
 
 ghost use Rattle.std.specs.Io.{ReadsAtMost};
 
 use std::io;
-use std::io::{Read, Write};
+use std::io::Read;
 
 // Reads until the buffer is full or the input ends, and tells how many bytes it put at the buffer's start. The loop counts what each read gives, which is
 // no index.
@@ -20,11 +20,4 @@ pub fn read_full<R: Read>(from: &mut R, buffer: &mut [u8]) -> io::Result<usize>
         done += n;
     }
     Ok(done)
-}
-
-// A part as its length and its bytes.
-pub fn put_part<W: Write>(to: &mut W, part: &[u8]) -> io::Result<()> {
-    write!(to, "{} ", part.len())?;
-    to.write_all(part)?;
-    to.write_all(b"\n")
 }

@@ -5,12 +5,19 @@
 use gtc::lookup::data_part;
 use gtc_records::genotype::{Genotype, genotype_of};
 use gtc_records::transformation::transformation_part;
-use lent_input::{put_part, read_full};
+use lent_input::read_full;
 use std::io;
 use std::io::Write;
 
 fn put<W: Write>(to: &mut W, text: &[u8]) -> io::Result<()> {
     to.write_all(text)
+}
+
+// A part as its length and its bytes. Each program has its own, since a public function states its result and no definition states what is printed.
+fn put_part<W: Write>(to: &mut W, part: &[u8]) -> io::Result<()> {
+    write!(to, "{} ", part.len())?;
+    to.write_all(part)?;
+    to.write_all(b"\n")
 }
 
 // The letters of a genotype, A before B.

@@ -5,12 +5,19 @@
 use abif::tag::Tag;
 use abif_elements::element::Element;
 use abif_file::file::AbifFile;
-use lent_input::{put_part, read_full};
+use lent_input::read_full;
 use reading::item::ItemData;
 use reading::part::{Span, part};
 use reading::refusal::Refusal;
 use std::io;
 use std::io::Write;
+
+// A part as its length and its bytes. Each program has its own, since a public function states its result and no definition states what is printed.
+fn put_part<W: Write>(to: &mut W, part: &[u8]) -> io::Result<()> {
+    write!(to, "{} ", part.len())?;
+    to.write_all(part)?;
+    to.write_all(b"\n")
+}
 
 // A refusal, by its number.
 fn put_refused<W: Write>(to: &mut W, r: Refusal) -> io::Result<()> {

@@ -6,9 +6,16 @@ use abif::lookup::data_part;
 use abif::tag::Tag;
 use abif_elements::text::text_part;
 use abif_file::entry::entry;
-use lent_input::{put_part, read_full};
+use lent_input::read_full;
 use std::io;
 use std::io::Write;
+
+// A part as its length and its bytes. Each program has its own, since a public function states its result and no definition states what is printed.
+fn put_part<W: Write>(to: &mut W, part: &[u8]) -> io::Result<()> {
+    write!(to, "{} ", part.len())?;
+    to.write_all(part)?;
+    to.write_all(b"\n")
+}
 
 // The name's number of an entry, or the refusal.
 fn put_entry<W: Write>(to: &mut W, s: &[u8], index: u64) -> io::Result<()> {

@@ -1,11 +1,18 @@
 // Runs the calls that no C function reaches, on the SFF file on standard input: the parts of a read that are handed back, found and refused.
 #![tactic(auto)]
 
-use lent_input::{put_part, read_full};
+use lent_input::read_full;
 use sff::lookup::read_part;
 use sff_fields::parts::ReadPart;
 use std::io;
 use std::io::Write;
+
+// A part as its length and its bytes. Each program has its own, since a public function states its result and no definition states what is printed.
+fn put_part<W: Write>(to: &mut W, part: &[u8]) -> io::Result<()> {
+    write!(to, "{} ", part.len())?;
+    to.write_all(part)?;
+    to.write_all(b"\n")
+}
 
 // Every part of read k.
 fn put_read<W: Write>(to: &mut W, s: &[u8], k: u64) -> io::Result<()> {
