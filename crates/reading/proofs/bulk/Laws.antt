@@ -1,12 +1,33 @@
--- The items of a bulk call.
+-- Numbers put side by side into a lent list, and the items of a bulk call.
 use Prim.Native.Nat.{ℕ, zero, suc, ◌+◌, ◌-◌, ◌*◌, ◌≤◌}
 use mathlib.Core.Path.{◌≡◌, refl, sym, ◌∙◌, ap}
-use mathlib.Core.List.{List, [], ◌∷◌}
+use mathlib.Core.List.{List, [], ◌∷◌, ◌++◌}
 use native.Mathlib.Nat.{add-zero, mul-zero, mul-suc, add_comm}
 use native.Mathlib.Omega.{arith}
-use lib.ListN.{length, drop, replicate, length-append, length-replicate}
+use lib.ListN.{length, set, drop, replicate, length-append, length-replicate}
+use lib.Seq.{sets, length-sets}
+use borrow.Author.Tests.{le-leb}
 use Rattle.reading.specs.Check.{Check, Answer, ok, refused, answer}
-use Rattle.reading.specs.Bulk.{record_of, records, OfItem, answered, forbidden}
+use Rattle.reading.specs.Bulk.{record_of, records, OfItem, answered, forbidden, placed}
+
+sets_append : (xs ys l : List ℕ) (i : ℕ) → sets (sets l i xs) (i + length xs) ys ≡ sets l i (xs ++ ys)
+sets_append [] ys l i = ap (λ (k : ℕ). sets l k ys) (add-zero i)
+sets_append (x ∷ xs) ys l i =
+    let e : i + suc (length xs) ≡ suc i + length xs = omega arith in
+    ap (λ (k : ℕ). sets (sets (set l i x) (suc i) xs) k ys) e ∙ sets_append xs ys (set l i x) (suc i)
+
+-- the numbers ys behind the numbers xs that stand from place p on
+pub set_behind : (o u v : List ℕ) (p : ℕ) (xs ys : List ℕ) → u ≡ sets o p xs → v ≡ sets u (p + length xs) ys → v ≡ sets o p (xs ++ ys)
+set_behind o u v p xs ys e f = f ∙ ap (λ (x : List ℕ). sets x (p + length xs) ys) e ∙ sets_append xs ys o p
+
+pub put_behind : (o u v : List ℕ) (p : ℕ) (xs ys : List ℕ) → u ≡ sets o p xs → v ≡ placed u (p + length xs) ys → p + length xs + length ys ≤ length o → v ≡ sets o p (xs ++ ys)
+put_behind o u v p xs ys e f h =
+    let l : length u ≡ length o = ap length e ∙ length-sets o p xs in
+    set_behind o u v p xs ys e (f ∙ rw (le-leb (p + length xs + length ys) (length u) (omega arith)))
+
+-- numbers that stand alone
+pub put_front : (o u : List ℕ) (p : ℕ) (xs : List ℕ) → u ≡ placed o p xs → p + length xs ≤ length o → u ≡ sets o p xs
+put_front o u p xs e h = e ∙ rw (le-leb (p + length xs) (length o) h)
 
 -- what the call t for one item answers for n items from number `first` on
 abbrev pub answers_from : {A : Type 0} → (ℕ → Check A) → List ℕ → ℕ → ℕ → List (Answer A)
