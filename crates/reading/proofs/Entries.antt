@@ -1,6 +1,6 @@
 -- The search for an entry, and the checks of entries in order.
 use Prim.Native.Nat.{ℕ, zero, suc, ◌+◌, ◌-◌, ◌≤◌, ◌<◌, max}
-use mathlib.Core.Path.{◌≡◌, refl, ◌∙◌, ap}
+use mathlib.Core.Path.{◌≡◌, refl, sym, ◌∙◌, ap}
 use mathlib.Core.List.{List}
 use mathlib.Core.Bool.{Bool, true, false}
 use native.Mathlib.Omega.{arith}
@@ -8,9 +8,9 @@ use lib.Dec.{leb}
 use borrow.Author.Tests.{lt-ltb, le-ltb, eq-eqb, ne_eqb, ltb-true, leb-true, leb-false}
 use Rattle.reading.specs.declared.check.Failure.{Failure}
 use Rattle.reading.specs.declared.check.Failure.TheVariants.{Failed, Short}
-use Rattle.reading.specs.Answers.{outcome_of_failure}
+use Rattle.reading.specs.Answers.{test_of, outcome_of_failure}
 use Rattle.reading.specs.Choice.{pick}
-use Rattle.reading.specs.Check.{Check, passed, failed, failing, ok, run, answer, holds}
+use Rattle.reading.specs.Check.{Check, Test, passed, failed, short, failing, ok, run, answer, holds}
 use Rattle.reading.proofs.Needed.{reach}
 use Rattle.reading.specs.Entries.{first_with, one_with, in_order}
 use Rattle.reading.proofs.Steps.{run_bind, run_must, run_done, run_at, answer_bind, answer_done, answer_at, reach_must, reach_done, reach_at}
@@ -114,10 +114,17 @@ larger_of x e r = omega arith
 module _ (t : ℕ → Check ℕ) (s : List ℕ) where
   -- the checks from entry i on, from what those of entry i find
   module _ (i x : ℕ) where
-    pub order_wrong : (f : Failure) → outcome_of_failure f 0 ≡ run (t i) s → (m : ℕ) → outcome_of_failure f (i + 1) ≡ run (in_order t (suc m) i x) s
+    pub order_failed : (w : Test) (e : ℕ) → run (t i) s ≡ failed w e → (m : ℕ) → run (in_order t (suc m) i x) s ≡ failed w (i + 1)
     unfolding in_order
-    order_wrong (Failed w) q m = simp (run_bind, run_at, ← q)
-    order_wrong (Short a b) q m = simp (run_bind, run_at, ← q)
+    order_failed w e q m = simp (run_bind, run_at, q)
+
+    pub order_short : (a b e : ℕ) → run (t i) s ≡ short (record { start = a; end = b }) e → (m : ℕ) → run (in_order t (suc m) i x) s ≡ short (record { start = a; end = b }) (i + 1)
+    unfolding in_order
+    order_short a b e q m = simp (run_bind, run_at, q)
+
+    pub order_wrong : (f : Failure) → outcome_of_failure f 0 ≡ run (t i) s → (m : ℕ) → outcome_of_failure f (i + 1) ≡ run (in_order t (suc m) i x) s
+    order_wrong (Failed w) q m = sym (order_failed (test_of w) 0 (sym q) m)
+    order_wrong (Short a b) q m = sym (order_short a b 0 (sym q) m)
 
     pub order_next : (y z : ℕ) → passed y ≡ run (t i) s → z ≡ max x y → (m : ℕ) → run (in_order t (suc m) i x) s ≡ run (in_order t m (i + 1) z) s
     unfolding in_order

@@ -1,25 +1,28 @@
 -- The verdict with its tail: from what judging's checks find, and what they have answered from it.
 use Prim.Native.Nat.{ℕ, ◌-◌}
-use mathlib.Core.Path.{◌≡◌, sym, ap}
+use mathlib.Core.Path.{◌≡◌, sym, ◌∙◌, ap}
 use mathlib.Core.List.{List}
 use lib.ListN.{length}
 use Rattle.reading.specs.declared.check.Failure.{Failure}
 use Rattle.reading.specs.declared.check.Failure.TheVariants.{Failed, Short}
-use Rattle.reading.specs.Check.{Check, passed, Answer, ok, refused, run}
+use Rattle.reading.specs.Check.{Check, Outcome, passed, failed, short, Answer, ok, refused, answer_of_outcome, run}
 use Rattle.reading.specs.Refusal.{number}
-use Rattle.reading.specs.Answers.{refusal_of, outcome_of_failure}
+use Rattle.reading.specs.Answers.{test_of, refusal_of, outcome_of_failure}
 use Rattle.reading.specs.Verdict.{with_tail, verdict_of}
 use Rattle.reading.proofs.Passed.{not_ok, ok_inj}
 use Rattle.reading.proofs.Cut.{answer_plain}
 
 -- the verdict, from what judging's checks find
 module _ {A : Type 0} (t : Check A) (extent : A → ℕ) (s : List ℕ) where
+  pub verdict_explained : (r : Outcome A) → r ≡ run t s → with_tail extent (length s) (answer_of_outcome r) ≡ verdict_of t extent s
+  verdict_explained r e = ap (with_tail extent (length s)) (ap answer_of_outcome e ∙ sym (answer_plain t s))
+
   pub verdict_refused : (f : Failure) (e : ℕ) → outcome_of_failure f e ≡ run t s → refused (number (refusal_of f)) e ≡ verdict_of t extent s
-  verdict_refused (Failed w) e q = simp (answer_plain, ← q)
-  verdict_refused (Short p m) e q = simp (answer_plain, ← q)
+  verdict_refused (Failed w) e q = verdict_explained (failed (test_of w) e) q
+  verdict_refused (Short p m) e q = verdict_explained (short (record { start = p; end = m }) e) q
 
   pub verdict_whole : (a : A) → passed a ≡ run t s → ok (a, length s - extent a) ≡ verdict_of t extent s
-  verdict_whole a q = simp (answer_plain, ← q)
+  verdict_whole a q = verdict_explained (passed a) q
 
 module _ {A : Type 0} (extent : A → ℕ) (n : ℕ) where
   pub tail_ok : (r : Answer A) (v : A) (t : ℕ) → with_tail extent n r ≡ ok (v, t) → (r ≡ ok v) × (t ≡ n - extent v)
