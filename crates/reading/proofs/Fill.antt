@@ -6,7 +6,7 @@ use mathlib.Core.List.{List, [], ◌∷◌, ◌++◌, append_assoc}
 use native.Mathlib.Numerals.{add-one}
 use native.Mathlib.Omega.{arith}
 use lib.ListN.{length, take, drop, set, length-set, length-append, length-drop, take-append-drop}
-use lib.Seq.{length-take-le, take-suc-set, take-set-le, drop-set-lt, drop-set-add, take_at, sets, length-sets, sets-eq}
+use lib.Seq.{length-take-le, take-suc-set, take-set-le, drop-set-lt, drop-set-add, drop-drop, take_at, sets, length-sets, sets-eq}
 use Rattle.reading.proofs.Loop.{Left, left_start, left_next, left_end}
 
 pub record Filling {A : Type 0} (W : ℕ → List A) (n i : ℕ) (o out whole : List A) : Type 0 where
@@ -88,6 +88,16 @@ module _ {A : Type 0} where
 
   lanes_join : (a b c d e f g : List A) → (a ++ b) ++ (c ++ ((d ++ e) ++ (f ++ g))) ≡ a ++ ((b ++ c) ++ (d ++ ((e ++ f) ++ g)))
   lanes_join a b c d e f g = simp append_assoc
+
+  -- nothing is written yet
+  pub lanes_start : (W Y : ℕ → List A) (n : ℕ) (o : List A) → n + n ≤ length o → Lanes W Y n 0 o o (W n ++ (Y n ++ drop (n + n) o))
+  lanes_start W Y n o h =
+      record {
+        up_to = omega arith;
+        room = h;
+        same = refl;
+        left = rw (← drop-drop n n o) (left_start (λ m. W m ++ (Y m ++ drop n (drop n o))) n);
+      }
 
   module _ (W Y : ℕ → List A) (n i : ℕ) (o out whole : List A) (f : Lanes W Y n i o out whole) where
     -- the next record of each is written, w numbers long

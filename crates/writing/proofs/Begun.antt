@@ -1,12 +1,12 @@
 -- A loop that appends to the output: what is written so far, with what is left to write, is the whole.
 -- W m is what m items left would write from the present state.
 use Prim.Native.Nat.{ℕ, zero, suc, ◌+◌, ◌-◌, ◌≤◌, ◌<◌}
-use mathlib.Core.Path.{◌≡◌, sym, ◌∙◌, ap}
+use mathlib.Core.Path.{◌≡◌, refl, sym, ◌∙◌, ap}
 use mathlib.Core.List.{List, [], ◌++◌, append_assoc, append-nil}
 use native.Mathlib.Omega.{arith}
 use lib.ListN.{length, take, drop, length-append, length-take, take-append-drop}
 use lib.Seq.{drop-drop}
-use Rattle.reading.proofs.Loop.{Left, left_next, left_end}
+use Rattle.reading.proofs.Loop.{Left, left_start, left_next, left_end}
 use Rattle.writing.specs.Put.{put}
 use Rattle.writing.proofs.Over.{put_room, length_put, take_put, drop_put}
 
@@ -16,6 +16,10 @@ pub record Begun (o l : List ℕ) (at : ℕ) (W : ℕ → List ℕ) (n i : ℕ) 
   pub same : length l ≡ length o
   pub rest : drop at l ≡ drop at o
   pub left : Left (λ m. take at l ++ W m) n i whole
+
+-- nothing is written yet
+pub begun_start : (o : List ℕ) (p : ℕ) (W : ℕ → List ℕ) (n : ℕ) → p ≤ length o → Begun o o p W n 0 (take p o ++ W n)
+begun_start o p W n h = record { up_to = omega arith; inside = h; same = refl; rest = refl; left = left_start (λ m. take p o ++ W m) n }
 
 module _ (o l : List ℕ) (at : ℕ) (W : ℕ → List ℕ) (n i : ℕ) (whole : List ℕ) (b : Begun o l at W n i whole) where
   module _ (v : List ℕ) (W' : ℕ → List ℕ) (f : (m : ℕ) → W (suc m) ≡ v ++ W' m) (h : i < n) (r : length whole ≤ length o) where
