@@ -1,19 +1,40 @@
 -- The turns of the loop that writes 16-bit numbers.
 use Prim.Native.Nat.{ℕ, zero, suc, ◌+◌, ◌*◌, ◌≤◌, ◌<◌}
-use mathlib.Core.Path.{◌≡◌, refl, sym, ◌∙◌, ap}
+use mathlib.Core.Path.{◌≡◌, refl, sym, ◌∙◌, ap, subst}
 use mathlib.Core.List.{List, ◌++◌, append_assoc, append-nil}
 use native.Mathlib.Nat.{zero-add, suc-add}
 use native.Mathlib.Omega.{arith}
-use lib.ListN.{length, get_or, length-append}
+use lib.ListN.{length, get_or, take, length-take, length-append}
 use Rattle.writing.specs.Put.{digits, words, put}
 use Rattle.reading.specs.Number.{be}
 use Rattle.writing.proofs.Over.{length_digits, follow}
 use Rattle.writing.proofs.Digits.{be_shift, be_written}
+use Rattle.writing.proofs.Begun.{Begun, begun_room, begun_next, begun_end, begun_put}
 
 pub length_words : (v : List ℕ) (m i : ℕ) → length (words v m i) ≡ 2 * m
 unfolding words
 length_words v zero i = refl
 length_words v (suc m) i = rw (length-append, length_digits 2 (get_or v i 0), length_words v m (i + 1)) (omega arith)
+
+-- the numbers appended one by one
+module _ (v o l : List ℕ) (at n i p : ℕ) (k : Begun o l at (λ m. words v m i) n i (take p o ++ words v n 0)) where
+  whole_fits : p + 2 * n ≤ length o → length (take p o ++ words v n 0) ≤ length o
+  whole_fits h = rw (length-append, length_words v n 0) (simp length-take (omega arith))
+
+  module _ (h : i < n) (r : p + 2 * n ≤ length o) where
+    step : (m : ℕ) → words v (suc m) i ≡ digits 2 (get_or v i 0) ++ words v m (i + 1)
+    unfolding words
+    step m = refl
+
+    pub words_room : at + 2 ≤ length l
+    words_room = subst (λ (y : ℕ). at + y ≤ length l) (length_digits 2 (get_or v i 0)) (begun_room o l at _ n i _ k (digits 2 (get_or v i 0)) _ step h (whole_fits r))
+
+    pub words_begun : (x : ℕ) (l' : List ℕ) → x ≡ get_or v i 0 → l' ≡ put l at (digits 2 x) → Begun o l' (at + 2) (λ m. words v m (i + 1)) n (i + 1) (take p o ++ words v n 0)
+    words_begun x l' q e = subst (λ (y : ℕ). Begun o l' (at + y) (λ m. words v m (i + 1)) n (i + 1) (take p o ++ words v n 0)) (length_digits 2 (get_or v i 0)) (begun_next o l at _ n i _ k (digits 2 (get_or v i 0)) _ step h (whole_fits r) l' (rw (← q) e))
+
+  pub words_end : n ≤ i → p + 2 * n ≤ length o → l ≡ put o p (words v n 0)
+  unfolding words
+  words_end h r = (begun_put o l at p (words v n 0) (begun_end o l at _ n i _ k h refl) (rw (length_words v n 0) r)).0
 
 -- one number more
 words_more : (v : List ℕ) (m i : ℕ) → words v (m + 1) i ≡ words v m i ++ digits 2 (get_or v (i + m) 0)
