@@ -1,5 +1,5 @@
 -- The flow steps of a read, from the steps one by one; and the steps of a part, where the code reads them.
-use Prim.Native.Nat.{ℕ, zero, suc, ◌+◌, ◌*◌, ◌≤◌, ◌<◌, min}
+use Prim.Native.Nat.{ℕ, zero, suc, ◌+◌, ◌-◌, ◌*◌, ◌≤◌, ◌<◌, min}
 use mathlib.Core.Path.{◌≡◌, refl, sym, ◌∙◌, ap}
 use mathlib.Core.List.{List, ◌++◌}
 use mathlib.Core.Bool.{Bool, true, false}
@@ -83,6 +83,23 @@ module _ (l : List ℕ) (p n k : ℕ) (e : k ≡ n) (h : p + n ≤ length l) whe
 -- and those of a beginning that has them
 pub sum_taken : (l : List ℕ) (m p n : ℕ) → p + n ≤ m → step_sum (take m l) p n ≡ step_sum l p n
 sum_taken l m p n h = sum_same (take m l) l p p n (λ i k. be_taken 1 m (p + i) l (omega arith))
+
+pub sum_begin : (l : List ℕ) (n : ℕ) → 0 + step_sum l 0 (n - 0) ≡ step_sum l 0 n
+sum_begin l n = zero-add _ ∙ ap (step_sum l 0) (omega arith)
+
+pub sum_all : (l : List ℕ) (a n t whole : ℕ) → n ≤ a → t + step_sum l a (n - a) ≡ whole → t ≡ whole
+sum_all l a n t whole h w =
+    let e : n - a ≡ 0 = omega arith in
+    sym (sum_end l a t) ∙ ap (λ (k : ℕ). t + step_sum l a k) (sym e) ∙ w
+
+-- the steps from place a on are those of a part up to b, and those behind it
+pub sum_chunk : (l : List ℕ) (a b n t v whole : ℕ) → a ≤ b → b ≤ n → n ≤ length l → t + step_sum l a (n - a) ≡ whole → v ≡ step_sum (take (b - a) (drop a l)) 0 (length (take (b - a) (drop a l))) → t + v + step_sum l b (n - b) ≡ whole
+sum_chunk l a b n t v whole g h k w q =
+    let e : n - a ≡ b - a + (n - b) = omega arith in
+    let d : a + (b - a) ≡ b = omega arith in
+    let x : step_sum l a (n - a) ≡ step_sum l a (b - a) + step_sum l b (n - b) = ap (step_sum l a) e ∙ sum_split l a (b - a) (n - b) ∙ ap (λ (i : ℕ). step_sum l a (b - a) + step_sum l i (n - b)) d in
+    let y : v ≡ step_sum l a (b - a) = q ∙ sum_window l a (b - a) (b - a) refl (omega arith) in
+    omega arith
 
 -- the steps of two lists, one behind the other
 sum_append : (l m : List ℕ) → step_sum (l ++ m) 0 (length (l ++ m)) ≡ step_sum l 0 (length l) + step_sum m 0 (length m)

@@ -3,8 +3,8 @@ use Prim.Native.Nat.{ℕ, suc, ◌+◌, ◌-◌, ◌≤◌}
 use mathlib.Core.Path.{◌≡◌, refl, sym, ◌∙◌, ap}
 use mathlib.Core.List.{List, [], ◌∷◌, ◌++◌}
 use mathlib.Core.Bool.{Bool, true, false, not, ◌||◌}
-use lib.ListN.{length, get_or, get_or-append, length-append}
-use lib.Seq.{get_or-append-add}
+use lib.ListN.{length, take, get_or, get_or-append, length-append, length-take}
+use lib.Seq.{get_or-take, get_or-append-add}
 use native.Mathlib.Omega.{arith}
 use lib.Dec.{leb, eqb}
 use borrow.Author.Tests.{leb-true, le-leb}
@@ -36,6 +36,12 @@ byte_at l p = get_or l p 0
 zero_same : (l m : List ℕ) (p q n : ℕ) → Same byte_at l p m q n → zero_among l p n ≡ zero_among m q n
 unfolding zero_among
 zero_same = fold_same byte_at false (λ b found. pick (eqb b 0) true found) zero_among (λ l p. refl) (λ l p n. refl)
+
+-- the bytes of a beginning
+pub zero_taken : (l : List ℕ) (n : ℕ) → n ≤ length l → zero_among (take n l) 0 (length (take n l)) ≡ zero_among l 0 n
+zero_taken l n h =
+    let z : length (take n l) ≡ n = simp length-take (omega arith) in
+    rw z (zero_same (take n l) l 0 0 n (λ i q. get_or-take n l (0 + i) 0 (omega arith)))
 
 -- the bytes before others
 zero_before : (l m : List ℕ) → zero_among (l ++ m) 0 (length l) ≡ zero_among l 0 (length l)
