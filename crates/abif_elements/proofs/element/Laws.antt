@@ -1,5 +1,5 @@
 -- Elements, from the answers of their parts.
-use Prim.Native.Nat.{ℕ, ◌+◌, ◌-◌, ◌*◌, ◌≤◌, ◌<◌}
+use Prim.Native.Nat.{ℕ, ◌+◌, ◌-◌, ◌*◌, ◌^◌, ◌≤◌, ◌<◌}
 use mathlib.Core.Path.{◌≡◌, ◌∙◌, ap}
 use mathlib.Core.List.{List}
 use mathlib.Core.Logic.{◌⊎◌, inl, inr}
@@ -14,6 +14,7 @@ use borrow.Author.Tests.{le-leb, lt-leb, ne_eqb}
 use Rattle.reading.specs.Choice.{is_number_of}
 use Rattle.reading.specs.Number.{be, signed}
 use Rattle.reading.specs.Check.{ok, refused, answer, holds}
+use Rattle.reading.proofs.Product.{below}
 use Rattle.reading.proofs.Steps.{answer_bind, answer_must, answer_done, answer_need_present}
 use Rattle.contents.specs.Date.{is_date}
 use Rattle.contents.specs.Time.{is_time}
@@ -21,6 +22,10 @@ use Rattle.abif.specs.declared.entry.ElementType.TheVariants.{Listed}
 use Rattle.reading.specs.declared.item.ItemData.{ItemData}
 use Rattle.abif.specs.Entry.{type_of}
 use Rattle.abif_elements.specs.Element.{whole, single, double, date, time, bool, thumb, whole_at, date_at, time_at, value_at, is_listed, element_of}
+
+-- the place of an element is a machine's number
+pub place_below : {s w i : ℕ} → s < 0x100000000 → w < 2 ^ 16 → i < 2 ^ 32 → s + w * i < 0x2000000000000
+place_below {s} {w} {i} a b c = omega (arith, below 16 32 {a = w} {b = i} b c)
 
 -- an element lies within the elements
 pub inside : (w i n : ℕ) → 1 ≤ i → i ≤ n → w * (i - 1) + w ≤ w * n

@@ -59,6 +59,13 @@ of_copied s q first out out' w p n a e m t f g h c =
     let k : n ≡ fitting 1 (left_from q.count first) (length out) = omega arith in
     (rw (r, k) (ap ok (sym (length_wholes _ _ _ _ _))), c ∙ rw (r, a, e, k, length_wholes))
 
+-- the bytes of the numbers that are left, before and after one of them
+pub next_place : (w n i : ℕ) → i < n → w * (n - i) ≡ w * (n - (i + 1)) + w
+next_place w n i h = ap (λ (k : ℕ). w * k) (omega arith) ∙ mul-suc w (n - (i + 1))
+
+pub first_place : (w n : ℕ) → w * (n - 0) ≡ w * n
+first_place w n = ap (λ (k : ℕ). w * k) (omega arith)
+
 -- the numbers from number i on
 pub next_whole : (k w : ℕ) (l : List ℕ) (p i m : ℕ) → wholes_at k w l (p + w * i) (suc m) ≡ whole_at k l (p + w * i) ∷ wholes_at k w l (p + w * (i + 1)) m
 unfolding wholes_at
