@@ -1,5 +1,5 @@
 -- The raw entries of the directory, from the answers of their parts.
-use Prim.Native.Nat.{ℕ, ◌+◌, ◌-◌, ◌*◌, ◌≤◌}
+use Prim.Native.Nat.{ℕ, ◌+◌, ◌-◌, ◌*◌, ◌≤◌, ◌<◌}
 use mathlib.Core.Path.{◌≡◌}
 use mathlib.Core.List.{List}
 use mathlib.Core.Bool.{false}
@@ -7,7 +7,7 @@ use Rattle.reading.specs.Choice.{is_number_of}
 use native.Mathlib.Omega.{arith}
 use lib.ListN.{take, drop}
 use Rattle.reading.proofs.Width.{be_in_part, be_front}
-use borrow.Author.Tests.{le-leb}
+use borrow.Author.Tests.{le-leb, lt-leb}
 use Rattle.reading.specs.Check.{ok, refused, answer, holds}
 use Rattle.reading.proofs.Steps.{answer_bind, answer_must, answer_done}
 use Rattle.abif.specs.Entry.{entry_of}
@@ -20,6 +20,12 @@ module _ (s : List ℕ) (i : ℕ) where
     pub entry_none : is_number_of i n ≡ false → refused 7 0 ≡ answer (entry_reading i) s
     unfolding entry_reading holds
     entry_none f = simp (answer_bind, answer_must, (opened_at s p n h).1, f)
+
+    pub entry_before : i < 1 → refused 7 0 ≡ answer (entry_reading i) s
+    entry_before f = entry_none (rw (lt-leb 1 i f))
+
+    pub entry_past : 1 ≤ i → n < i → refused 7 0 ≡ answer (entry_reading i) s
+    entry_past f g = entry_none (rw (le-leb 1 i f, lt-leb i n g))
 
     pub entry_there : 1 ≤ i → i ≤ n → ok (raw_entry (take (p + 28 * n) s) (p + 28 * (i - 1))) ≡ answer (entry_reading i) s
     unfolding entry_reading holds
