@@ -1,3 +1,4 @@
+pub mod Halving
 pub mod Rows
 pub mod TagCmp
 pub mod Reach

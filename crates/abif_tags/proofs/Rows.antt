@@ -23,6 +23,11 @@ module _ {A : Type 0} where
   every f [] = true
   every f (x ∷ l) = pick (f x) (every f l) false
 
+  pub every_at : (f : A → Bool) (l : List A) → every f l ≡ true → (d : A) → f d ≡ true → (k : ℕ) → f (get_or l k d) ≡ true
+  every_at f [] h d e k = e
+  every_at f (x ∷ l) h d e zero = first_part (f x) (every f l) h
+  every_at f (x ∷ l) h d e (suc k) = every_at f l (second_part (f x) (every f l) h) d e k
+
   pub every_in : (f : A → Bool) (l : List A) → every f l ≡ true → (d : A) (k : ℕ) → k < length l → f (get_or l k d) ≡ true
   every_in f [] h d k q = absurd (omega arith)
   every_in f (x ∷ l) h d zero q = first_part (f x) (every f l) h
