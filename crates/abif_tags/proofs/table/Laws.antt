@@ -12,9 +12,10 @@ use lib.ListN.{length, get_or, get_or-map, length-map}
 use Rattle.std.proofs.lemmas.List.{get_or_default}
 use Rattle.std.specs.List.Sorted.{IsPartitionedBy, IsPartitionPoint}
 use borrow.Author.Tests.{ltb-true, eqb-true, leb-true, leb-false, ltb-false, eqb-false, lt-ltb, le-leb, lt-leb, ne_eqb}
-use Rattle.reading.specs.Choice.{pick}
+use Rattle.reading.specs.Choice.{pick, is_number_of}
 use Rattle.reading.proofs.Entries.{first_is, first_none}
-use Rattle.reading.proofs.Tests.{no, span}
+use Rattle.reading.proofs.Match.{InNone}
+use Rattle.reading.proofs.Tests.{no, span, number_within}
 use Rattle.abif.specs.declared.tag.Tag.{Tag}
 use Rattle.abif.specs.Tag.{tag_below}
 use Rattle.abif_tags.specs.declared.table.Row.{Row}
@@ -25,7 +26,8 @@ use Rattle.abif_tags.specs.declared.table.Published.TheVariants.{Of}
 use Rattle.abif_tags.specs.declared.table.TheConstants.{TABLE}
 use Rattle.abif_tags.specs.Table.{TableRow, table, no_row, row_in, row_at, is_there, same_tag, stands_for, stands_at, row_for}
 use Rattle.abif_tags.specs.Private.{as_defined, Parted, name_reached, row_if}
-use Rattle.abif_tags.proofs.Rows.{pairs_at}
+use Rattle.abif_tags.proofs.Halving.{Rising}
+use Rattle.abif_tags.proofs.Rows.{every_at, pairs_at}
 
 -- the code's table is the definition's
 pub table_is : map as_defined TABLE ≡ table
@@ -35,6 +37,18 @@ table_is = refl
 row_count_is : length table ≡ 112
 unfolding table
 row_count_is = refl
+
+-- a number that is none of three is past them
+three_past : (p k : ℕ) → k ≤ p → (p ≡ k → ⊥) → (p ≡ k + 1 → ⊥) → (p ≡ k + 2 → ⊥) → k + 3 ≤ p
+three_past p k h a b c = omega arith
+
+pub last_profile : (p : ℕ) → is_number_of p 8 ≡ true → InNone ((7 ∷ []) ∷ (6 ∷ []) ∷ (5 ∷ []) ∷ (4 ∷ []) ∷ (3 ∷ []) ∷ (2 ∷ []) ∷ (1 ∷ []) ∷ []) p → p ≡ 8
+last_profile p w n =
+    let u = number_within p 8 w in
+    let a = three_past p 1 u.0 n.0.0.0.0.0.0.1 n.0.0.0.0.0.1 n.0.0.0.0.1 in
+    let b = three_past p 4 a n.0.0.0.1 n.0.0.1 n.0.1 in
+    let c : p ≡ 7 → ⊥ = n.1 in
+    omega (arith, u.1)
 
 -- The rule of the table, of a row and one behind it: their names ascend; or the names are the same, and then the numbers ascend and neither row is 1-N, or no
 -- profile has both.
@@ -67,6 +81,20 @@ names_ascend a b h = go (eqb a.first.name b.first.name) refl h
 pub name_up : (j k : ℕ) → j ≤ k → k < 112 → (get_or table j no_row).first.name ≤ (get_or table k no_row).first.name
 name_up j k h l = span (λ (m : ℕ). m < 112 → (get_or table j no_row).first.name ≤ (get_or table m no_row).first.name) j k h (λ _. omega arith) (λ u v. names_ascend (get_or table j no_row) (get_or table k no_row) (rule j k (omega arith) v)) l
 
+pub names_rise : (name : ℕ) → Rising (name_reached name) 112
+unfolding name_reached
+names_rise name a b h l e =
+    let u = leb-true name (get_or table a no_row).first.name e in
+    le-leb name (get_or table b no_row).first.name (omega (arith, name_up a b h l))
+
+-- a name is four bytes
+fits_name : TableRow → Bool
+fits_name r = ltb r.first.name 0x100000000
+
+pub name_fits : (k : ℕ) → (get_or table k no_row).first.name < 0x100000000
+unfolding table fits_name
+name_fits k = ltb-true (get_or table k no_row).first.name 0x100000000 (every_at fits_name table refl no_row refl k)
+
 -- rows as the code has them
 module _ (t : List PrintedRow) (e : map as_defined t ≡ table) where
   printed_count : length t ≡ 112
@@ -78,6 +106,19 @@ module _ (t : List PrintedRow) (e : map as_defined t ≡ table) where
 
   name_is : (k : ℕ) → k < 112 → (d : PrintedRow) → (as_defined (get_or t k d)).first.name ≡ (get_or table k no_row).first.name
   name_is k h d = ap (λ (r : TableRow). r.first.name) (row_is k h d)
+
+  -- what the code's comparison of names tells
+  module _ (name k : ℕ) where
+    named : (get_or (map as_defined t) k no_row).first.name ≡ (get_or table k no_row).first.name
+    named = ap (λ (l : List TableRow). (get_or l k no_row).first.name) e
+
+    pub name_reached_lem : name ≤ (get_or (map as_defined t) k no_row).first.name → name_reached name k ≡ true
+    unfolding name_reached
+    name_reached_lem h = le-leb name (get_or table k no_row).first.name (omega (arith, named))
+
+    pub name_below : (get_or (map as_defined t) k no_row).first.name < name → name_reached name k ≡ false
+    unfolding name_reached
+    name_below h = lt-leb name (get_or table k no_row).first.name (omega (arith, named))
 
   -- the names below one stand in front
   pub names_parted : (name : ℕ) → IsPartitionedBy (λ row. ltb (as_defined row).first.name name) t
@@ -161,25 +202,19 @@ module _ (profile : ℕ) (tag : Tag) where
       }
 
   module _ (k : ℕ) (s : Searched k) where
-    pub searched_next : k < 112 → (r : Row) → r ≡ row_at profile k → stands_for r tag ≡ false → Searched (k + 1)
-    unfolding stands_at
-    searched_next l r f w = record { none = λ j h. go j h; reached = λ j h. s.reached j (omega arith); up_to = omega arith }
+    pub search_next : k < 112 → stands_at profile tag k ≡ false → Searched (k + 1)
+    search_next l e = record { none = λ j h. go j h; reached = λ j h. s.reached j (omega arith); up_to = omega arith }
       where
         go : (j : ℕ) → j < k + 1 → stands_at profile tag j ≡ false
-        go j h = span_below (λ (m : ℕ). stands_at profile tag m ≡ false) j k h (s.none j) (ap (λ (x : Row). stands_for x tag) (sym f) ∙ w)
+        go j h = span_below (λ (m : ℕ). stands_at profile tag m ≡ false) j k h (s.none j) e
 
-    pub searched_found : k < 112 → (r : Row) → r ≡ row_at profile k → stands_for r tag ≡ true → Some r ≡ row_if profile (row_for profile tag)
-    unfolding stands_at
-    searched_found l r e w =
-        let f : stands_at profile tag k ≡ true = ap (λ (x : Row). stands_for x tag) (sym e) ∙ w in
-        let i : k ≡ row_for profile tag = sym (first_is (stands_at profile tag) k 112 0 (omega arith) (omega arith) (λ j u v. s.none j v) f) in
-        let g : row_if profile k ≡ Some (row_at profile k) = simp (lt-ltb k 112 l) in
-        ap Some e ∙ sym g ∙ ap (row_if profile) i
+    pub search_found : k < 112 → stands_at profile tag k ≡ true → k ≡ row_for profile tag
+    search_found l e = sym (first_is (stands_at profile tag) k 112 0 (omega arith) (omega arith) (λ j u v. s.none j v) e)
 
     -- the name of row k is another, so it is above the tag's
-    pub searched_past : k < 112 → (r : Row) → r ≡ row_at profile k → (r.first.name ≡ tag.name → ⊥) → None ≡ row_if profile (row_for profile tag)
-    unfolding name_reached row_at row_in
-    searched_past l r n e = ap (row_if profile) (sym (first_none (stands_at profile tag) 112 0 (λ j u v. go j v (leb (j + 1) k) refl)))
+    pub search_past : k < 112 → ((get_or table k no_row).first.name ≡ tag.name → ⊥) → 112 ≡ row_for profile tag
+    unfolding name_reached
+    search_past l e = sym (first_none (stands_at profile tag) 112 0 (λ j u v. go j v (leb (j + 1) k) refl))
       where
         go : (j : ℕ) → j < 112 → (t : Bool) → leb (j + 1) k ≡ t → stands_at profile tag j ≡ false
         go j v true q = s.none j (omega (arith, leb-true (j + 1) k q))
@@ -187,8 +222,25 @@ module _ (profile : ℕ) (tag : Tag) where
             let z = leb-false (j + 1) k q in
             let a : tag.name ≤ (get_or table k no_row).first.name = leb-true tag.name (get_or table k no_row).first.name (s.reached k (omega arith) l) in
             let b : (get_or table k no_row).first.name ≤ (get_or table j no_row).first.name = name_up k j (omega arith) v in
-            let m : r.first.name ≡ (get_or table k no_row).first.name = ap (λ (x : Row). x.first.name) n in
             other_name j (λ f. e (omega arith))
 
+    pub search_end : 112 ≤ k → 112 ≡ row_for profile tag
+    search_end l = sym (first_none (stands_at profile tag) 112 0 (λ j u v. s.none j (omega arith)))
+
+    -- the same of row k as the code has it
+    pub searched_next : k < 112 → (r : Row) → r ≡ row_at profile k → stands_for r tag ≡ false → Searched (k + 1)
+    unfolding stands_at
+    searched_next l r f w = search_next l (ap (λ (x : Row). stands_for x tag) (sym f) ∙ w)
+
+    pub searched_found : k < 112 → (r : Row) → r ≡ row_at profile k → stands_for r tag ≡ true → Some r ≡ row_if profile (row_for profile tag)
+    unfolding stands_at
+    searched_found l r e w =
+        let g : row_if profile k ≡ Some (row_at profile k) = simp (lt-ltb k 112 l) in
+        ap Some e ∙ sym g ∙ ap (row_if profile) (search_found l (ap (λ (x : Row). stands_for x tag) (sym e) ∙ w))
+
+    pub searched_past : k < 112 → (r : Row) → r ≡ row_at profile k → (r.first.name ≡ tag.name → ⊥) → None ≡ row_if profile (row_for profile tag)
+    unfolding row_at row_in
+    searched_past l r n e = ap (row_if profile) (search_past l (λ q. e (ap (λ (x : Row). x.first.name) n ∙ q)))
+
     pub searched_end : 112 ≤ k → None ≡ row_if profile (row_for profile tag)
-    searched_end l = ap (row_if profile) (sym (first_none (stands_at profile tag) 112 0 (λ j u v. s.none j (omega arith))))
+    searched_end l = ap (row_if profile) (search_end l)
