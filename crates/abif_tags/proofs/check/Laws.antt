@@ -1,12 +1,12 @@
 -- The check of a file's tags, from the answers of its parts.
-use Prim.Native.Nat.{ℕ, ◌*◌, ◌≤◌, ◌<◌}
+use Prim.Native.Nat.{ℕ, suc, ◌+◌, ◌*◌, ◌≤◌, ◌<◌}
 use mathlib.Core.Path.{◌≡◌, sym, ◌∙◌, ap}
-use mathlib.Core.List.{List, ◌++◌, map}
+use mathlib.Core.List.{List, ◌∷◌, ◌++◌, map}
 use mathlib.Core.Bool.{true, false}
 use native.Mathlib.Omega.{arith}
-use lib.IntN.{ℤ}
-use lib.ListN.{length, take, drop}
-use lib.Seq.{take_at}
+use lib.IntN.{ℤ, pos}
+use lib.ListN.{length, get_or, take, drop, length-map}
+use lib.Seq.{drop-cons, take_at}
 use borrow.Author.Tests.{le-leb, lt-leb}
 use Rattle.reading.specs.Choice.{is_number_of}
 use Rattle.reading.specs.Check.{Answer, ok, refused, map_answer, answer, at, holds, ◌>>=◌}
@@ -20,8 +20,14 @@ use Rattle.abif_tags.specs.Report.{Finding, finding_numbers, side_by_side, repor
 use Rattle.abif_tags.specs.Table.{table, row_in}
 use Rattle.abif_tags.specs.declared.order.Tagged.{Tagged}
 use Rattle.abif_tags.specs.Private.{tagged}
-use Rattle.abif_tags.proofs.order.Laws.{entries_told}
+use Rattle.abif_tags.proofs.order.Laws.{length_order, entries_told}
 use Rattle.abif_tags.proofs.report.Laws.{numbers_length}
+
+-- the next of n numbers that are copied
+pub copied_next : (found : List ℤ) (i : ℕ) → i < length found → (m : ℕ) → take (suc m) (drop i found) ≡ get_or found i (pos 0) ∷ take m (drop (i + 1) found)
+copied_next found i h m =
+    let e : suc i ≡ i + 1 = omega arith in
+    ap (take (suc m)) (drop-cons found i (pos 0) h) ∙ ap (λ (k : ℕ). get_or found i (pos 0) ∷ take m (drop k found)) e
 
 -- the report on n entries that are in order
 module _ (profile : ℕ) (bytes : List ℕ) (place n : ℕ) (order : List Tagged) (e : order ≡ map (tagged bytes place) (in_tag_order bytes place n)) where
@@ -34,6 +40,9 @@ module _ (profile : ℕ) (bytes : List ℕ) (place n : ℕ) (order : List Tagged
   report_is : Findings ≡ report profile Of
   unfolding report
   report_is = ap (side_by_side profile bytes place (map (row_in profile) table)) (entries_told bytes place (in_tag_order bytes place n) order e)
+
+  pub front_length : length order ≡ n
+  front_length = rw e (simp length-map (length_order bytes place n))
 
   module _ (m : ℕ) (c : m ≡ length Findings) (room : ℕ) where
     count_is : m ≡ length (report profile Of)
@@ -59,24 +68,37 @@ module _ (profile : ℕ) (bytes : List ℕ) (place n : ℕ) (order : List Tagged
           let t : front ≡ v = a ∙ ap (take (3 * m)) (f ∙ ap (λ (x : List Finding). finding_numbers x ++ o) report_is) ∙ take_at v o (3 * m) k in
           ap (λ (x : List ℤ). x ++ drop (3 * m) out) t ∙ ap (λ (x : ℕ). v ++ drop x out) (sym k) ∙ ap (λ (x : Answer (List Finding)). filled (map_answer finding_numbers x) out) (reported l)
 
+-- the profile
+pub one_of_eight : (p : ℕ) → 1 ≤ p → p ≤ 8 → is_number_of p 8 ≡ true
+one_of_eight p h k = simp (le-leb 1 p h, le-leb p 8 k)
+
+pub none_of_eight : (p : ℕ) → 8 < p → is_number_of p 8 ≡ false
+none_of_eight p h = simp (le-leb 1 p (omega arith), lt-leb p 8 h)
+
 module _ (profile room : ℕ) (s : List ℕ) where
+  pub unknown_profile : is_number_of profile 8 ≡ false → refused 10 0 ≡ answer (checking_whole profile room) s
+  unfolding checking_whole holds
+  unknown_profile h = simp (answer_bind, answer_must, h)
+
+  pub one_profile : is_number_of profile 8 ≡ true → answer (directory >>= reporting profile room) s ≡ answer (checking_whole profile room) s
+  unfolding checking_whole holds
+  one_profile h = simp (answer_bind, answer_must, h)
+
   -- judging first
   pub judged_refused : (n e : ℕ) → answer judging s ≡ refused n e → refused n 0 ≡ answer (checking_tags profile room) s
   unfolding checking_tags
   judged_refused n e h = bind_refused (at 0 judging) _ s n 0 (answer_at 0 judging s ∙ ap (answer_at_entry 0) h)
 
   module _ (x : ℕ) (h : answer judging s ≡ ok x) where
-    judged_whole : answer (checking_whole profile room) s ≡ answer (checking_tags profile room) s
+    pub judged_whole : answer (checking_whole profile room) s ≡ answer (checking_tags profile room) s
     unfolding checking_tags
     judged_whole = bind_answered (at 0 judging) (λ _. checking_whole profile room) s x (answer_at 0 judging s ∙ ap (answer_at_entry 0) h)
 
     -- then the profile
     pub other_profile : is_number_of profile 8 ≡ false → refused 10 0 ≡ answer (checking_tags profile room) s
-    unfolding checking_whole holds
-    other_profile w = (simp (answer_bind, answer_must, w)) ∙ judged_whole
+    other_profile w = unknown_profile w ∙ judged_whole
 
     pub known_profile : (p : ℕ) → p ≡ profile → 1 ≤ p → p ≤ 8 → answer (directory >>= reporting p room) s ≡ answer (checking_tags profile room) s
-    unfolding checking_whole holds
     known_profile p e l m =
-        let w : is_number_of profile 8 ≡ true = simp (le-leb 1 profile (omega arith), le-leb profile 8 (omega arith)) in
-        ap (λ (n : ℕ). answer (directory >>= reporting n room) s) e ∙ (simp (answer_bind, answer_must, w)) ∙ judged_whole
+        let w : is_number_of profile 8 ≡ true = one_of_eight profile (omega arith) (omega arith) in
+        ap (λ (n : ℕ). answer (directory >>= reporting n room) s) e ∙ one_profile w ∙ judged_whole

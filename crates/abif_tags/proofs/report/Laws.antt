@@ -11,7 +11,8 @@ use lib.Dec.{ltb}
 use Rattle.reading.specs.Choice.{pick}
 use native.Mathlib.Omega.{arith}
 use lib.IntN.{ℤ, pos}
-use lib.ListN.{length, get_or, take, drop, length-append, drop_of_length-le, take-append-drop, get_or-map, length-map}
+use borrow.Author.Tests.{lt-ltb}
+use lib.ListN.{length, get_or, take, drop, set, length-append, drop_of_length-le, take-append-drop, get_or-map, length-map}
 use lib.Seq.{drop-cons, drop-drop, sets, sets-eq, length-sets, drop_at, length-take-le}
 use Rattle.reading.proofs.Fill.{front_sets}
 use Rattle.abif.specs.declared.tag.Tag.{Tag}
@@ -25,7 +26,10 @@ use Rattle.abif_tags.specs.Report.{Finding, missing, other_type, not_in_profile,
 use Rattle.std.proofs.Common.{Ordering, Less, Equal, Greater, is_lt, is_gt}
 use Rattle.abif_tags.proofs.TagCmp.{tag_cmp, is_below, is_above}
 use Rattle.abif_tags.specs.declared.order.Tagged.{Tagged}
-use Rattle.abif_tags.specs.Private.{row_if}
+use Rattle.abif_tags.specs.Kind.{kind_number}
+use Rattle.abif_tags.specs.declared.finding.Kind.TheVariants.{OtherType, NotInProfile}
+use Rattle.abif_tags.specs.declared.finding.Finding as code
+use Rattle.abif_tags.specs.Private.{row_if, told}
 use Rattle.std.specs.Prelude.{Option, Some, None}
 
 -- what is found of an entry, from the row that stands for its tag
@@ -51,6 +55,28 @@ module _ (profile : ℕ) (entry : Entry) where
 
     pub found_other : agrees row.published entry.element_type entry.element_count ≡ false → other_type tag ∷ [] ≡ of_entry profile entry
     found_other a = ap (λ (x : Tag). other_type x ∷ []) t ∙ sym (ap (λ (b : Bool). pick b [] (other_type (tag_of entry) ∷ [])) a) ∙ found_is (Some row) tag t e
+
+-- the same, from the number of that row
+module _ (profile : ℕ) (bytes : List ℕ) (place i k : ℕ) (tag : Tag) (et : tag ≡ tag_at bytes place i) (ek : k ≡ row_for profile tag) where
+  pub of_none : k ≡ 112 → told (Some (record { tag = tag; kind = NotInProfile })) ≡ of_entry profile (entry_of bytes (place + 28 * i))
+  unfolding tag_at
+  of_none h =
+      let n : None ≡ row_if profile (row_for profile tag) = ap (row_if profile) (sym h ∙ ek) in
+      ap (λ (t : Tag). not_in_profile t ∷ []) et ∙ found_is profile (entry_of bytes (place + 28 * i)) None tag et n
+
+  module _ (h : k < 112) where
+    row_there : Some (row_at profile k) ≡ row_if profile (row_for profile tag)
+    row_there =
+        let g : row_if profile k ≡ Some (row_at profile k) = simp (lt-ltb k 112 h) in
+        sym g ∙ ap (row_if profile) ek
+
+    pub of_same : agrees (row_at profile k).published (entry_of bytes (place + 28 * i)).element_type (entry_of bytes (place + 28 * i)).element_count ≡ true → told None ≡ of_entry profile (entry_of bytes (place + 28 * i))
+    unfolding tag_at
+    of_same e = found_same profile (entry_of bytes (place + 28 * i)) (row_at profile k) tag et row_there e
+
+    pub of_other : agrees (row_at profile k).published (entry_of bytes (place + 28 * i)).element_type (entry_of bytes (place + 28 * i)).element_count ≡ false → told (Some (record { tag = tag; kind = OtherType })) ≡ of_entry profile (entry_of bytes (place + 28 * i))
+    unfolding tag_at
+    of_other e = found_other profile (entry_of bytes (place + 28 * i)) (row_at profile k) tag et row_there e
 
 -- what the code's comparison of a presence tells
 pub required_by : (p : Presence) (b : Bool) → b ≡ not (sameb the_type p Required) → is_required p ≡ not b
@@ -151,12 +177,29 @@ pub numbers_length : (a : List Finding) → length (finding_numbers a) ≡ 3 * l
 numbers_length [] = refl
 numbers_length (f ∷ a) = ap (λ (n : ℕ). suc (suc (suc n))) (numbers_length a) ∙ omega arith
 
+-- a finding's numbers, one by one
+pub told_numbers : (out : List ℤ) (m : ℕ) (f : code.Finding) → set (set (set out (3 * m) (pos f.tag.name)) (3 * m + 1) f.tag.number) (3 * m + 2) (pos (kind_number f.kind)) ≡ sets out (3 * m) (finding_numbers (told (Some f)))
+told_numbers out m f =
+    let a : 3 * m + 1 ≡ suc (3 * m) = omega arith in
+    let b : 3 * m + 2 ≡ suc (suc (3 * m)) = omega arith in
+    rw (a, b)
+
+pub told_one : (f : code.Finding) → length (told (Some f)) ≡ 1
+told_one f = refl
+
+pub told_few : (o : Option code.Finding) → length (told o) ≤ 1
+told_few None = omega arith
+told_few (Some f) = omega arith
+
 -- A report is written up to m findings, and these are left.
 pub record Written (whole rest : List Finding) (m : ℕ) (o out : List ℤ) : Type 0 where
   pub front : take (3 * m) out ++ finding_numbers rest ≡ finding_numbers whole
   pub behind : drop (3 * m) out ≡ drop (3 * m) o
   pub count : m + length rest ≡ length whole
   pub same : length out ≡ length o
+
+pub written_start : (whole : List Finding) (o : List ℤ) → Written whole whole 0 o o
+written_start whole o = record { front = refl; behind = refl; count = omega arith; same = refl }
 
 module _ (whole rest : List Finding) (m : ℕ) (o out : List ℤ) (w : Written whole rest m o out) where
   -- the next findings are written
