@@ -1,13 +1,16 @@
 -- The bytes of an entry and of the header, from the writes of their fields.
-use Prim.Native.Nat.{ℕ, ◌+◌, ◌≤◌}
+use Prim.Native.Nat.{ℕ, ◌+◌, ◌-◌, ◌≤◌, ◌<◌}
 use mathlib.Core.Path.{◌≡◌, refl}
 use mathlib.Core.List.{List}
 use native.Mathlib.Omega.{arith}
-use lib.ListN.{length, replicate}
+use lib.ListN.{length, take, drop, replicate}
+use borrow.Author.Tests.{le-leb, lt-leb}
+use Rattle.reading.specs.Number.{be}
 use Rattle.writing.specs.Put.{digits, put}
 use Rattle.writing.proofs.Over.{follow}
 use Rattle.abif.specs.declared.entry.Entry.{Entry}
-use Rattle.abif_write.specs.Entry.{tag_bytes, data_bytes, entry_bytes, tdir, header_bytes}
+use Rattle.abif_write.specs.declared.item.Item.{Item}
+use Rattle.abif_write.specs.Entry.{tag_bytes, data_bytes, entry_bytes, tdir, header_bytes, offset_field}
 
 pub length_entry : (d : Entry) → length (entry_bytes d) ≡ 28
 unfolding entry_bytes tag_bytes data_bytes digits
@@ -43,3 +46,13 @@ header_put l l1 l2 l3 n p h e1 e2 e3 e4 =
     let f2 = follow l l1 0 4 (digits 4 0x41424946) (digits 2 101) e1 e2 refl (omega arith) in
     let f3 = follow l l2 0 6 _ (entry_bytes (tdir n p)) f2 e3 refl (omega arith) in
     follow l l3 0 34 _ (replicate 94 0) f3 e4 refl (omega arith)
+
+-- an entry's offset field
+module _ (b : List ℕ) (d : Item) (x r : ℕ) where
+  pub field_inline : d.size ≤ 4 → r ≡ be 4 (take (d.start + d.size - d.start) (drop d.start b)) 0 → r ≡ offset_field b d x
+  field_inline h e =
+      let k : d.start + d.size - d.start ≡ d.size = omega arith in
+      rw (le-leb d.size 4 h) (rw k at e)
+
+  pub field_apart : 4 < d.size → r ≡ x → r ≡ offset_field b d x
+  field_apart h e = rw (lt-leb d.size 4 h) e

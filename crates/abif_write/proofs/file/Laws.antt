@@ -11,7 +11,7 @@ use Rattle.reading.specs.Choice.{pick}
 use Rattle.reading.proofs.Loop.{Left, left_next, left_end}
 use Rattle.writing.specs.Put.{put}
 use Rattle.writing.proofs.Over.{put_nil, follow}
-use Rattle.writing.proofs.Begun.{Begun, begun_next, begun_end, begun_put}
+use Rattle.writing.proofs.Begun.{Begun, begun_start, begun_room, begun_next, begun_end, begun_put}
 use Rattle.abif.specs.declared.entry.Entry.{Entry}
 use Rattle.abif_write.specs.declared.item.Item.{Item}
 use Rattle.abif_write.specs.Item.{bytes_of}
@@ -70,6 +70,9 @@ module _ (g : ℕ → Item) (b o l : List ℕ) (at n i : ℕ) (k : Begun o l at 
   long : length (data_outside b d) ≡ a
   long = length_outside b d (rw e s.present) ∙ sym ea
 
+  pub datas_room : at + a ≤ length l
+  datas_room = subst (λ (x : ℕ). at + x ≤ length l) long (begun_room o l at _ n i _ k (data_outside b d) _ turn h (whole_fits o (all_data g b n 0) 128 r))
+
   pub datas_next : (l' : List ℕ) → l' ≡ put l at (data_outside b d) → Begun o l' (at + a) (λ m. all_data g b m (i + 1)) n (i + 1) (take 128 o ++ all_data g b n 0)
   datas_next l' el = subst (λ (x : ℕ). Begun o l' (at + x) (λ m. all_data g b m (i + 1)) n (i + 1) (take 128 o ++ all_data g b n 0)) long (begun_next o l at _ n i _ k (data_outside b d) _ turn h (whole_fits o (all_data g b n 0) 128 r) l' el)
 
@@ -96,6 +99,12 @@ module _ (g : ℕ → Item) (n i x : ℕ) (l : Taken g n i x) where
   taken_within h =
       let q : x + total_outside g (n - i) i ≡ directory_place g n = l (n - i) (omega arith) in
       omega arith
+
+-- nothing of the directory is written yet
+pub begun_first : (o : List ℕ) (p : ℕ) (W : ℕ → List ℕ) (n : ℕ) → p ≤ length o → Begun o o (p + 28 * 0) W n 0 (take p o ++ W n)
+begun_first o p W n h =
+    let q : p ≡ p + 28 * 0 = omega arith in
+    subst (λ (y : ℕ). Begun o o y W n 0 (take p o ++ W n)) q (begun_start o p W n h)
 
 -- a turn of the loop that writes the directory
 module _ (g : ℕ → Item) (b o l : List ℕ) (x n i p : ℕ) (k : Begun o l (p + 28 * i) (λ m. entries g b p m i x) n i (take p o ++ entries g b p n 0 128)) (h : i < n) (r : p + 28 * n ≤ length o) (e : Entry) (ee : e ≡ entry_for b (g i) (p + 28 * i) x) (a : ℕ) (ea : a ≡ size_outside (g i).size) where

@@ -1,12 +1,12 @@
 -- The checks of items, from the answers of their parts, and what they show.
 use Prim.Native.Nat.{ℕ, zero, suc, ◌+◌, ◌-◌, ◌≤◌, ◌<◌}
-use mathlib.Core.Path.{◌≡◌, refl, sym, subst}
+use mathlib.Core.Path.{◌≡◌, refl, sym, ◌∙◌, subst}
 use mathlib.Core.List.{List, []}
 use mathlib.Core.Bool.{Bool, true, false, not}
 use native.Mathlib.Omega.{arith}
 use lib.Dec.{leb, eqb}
 use lib.ListN.{length, take, drop}
-use borrow.Author.Tests.{le-leb, leb-true, leb-false, eqb-true}
+use borrow.Author.Tests.{le-leb, lt-leb, leb-true, leb-false, eqb-true}
 use Rattle.reading.specs.Choice.{pick}
 use Rattle.reading.specs.Check.{ok, refused, answer, holds}
 use Rattle.reading.proofs.Steps.{answer_bind, answer_must, answer_done}
@@ -25,6 +25,20 @@ pub denied : (b : Bool) → not b ≡ true → b ≡ false
 denied true h = sym h
 denied false h = refl
 
+pub granted : (b : Bool) → not b ≡ false → b ≡ true
+granted true h = refl
+granted false h = sym h
+
+-- the tests of an item: its part, then its type
+module _ (b : List ℕ) (d : Item) where
+  pub item_outside : length b < d.start + d.size → refused 9 0 ≡ answer (item_check b d) []
+  unfolding item_check holds
+  item_outside h = simp (answer_bind, answer_must, lt-leb (d.start + d.size) (length b) h)
+
+  pub item_type : d.start + d.size ≤ length b → (t : Bool) → t ≡ is_taken (type_of d.element_type) d.element_type → t ≡ false → refused 10 0 ≡ answer (item_check b d) []
+  unfolding item_check holds
+  item_type h t et f = simp (answer_bind, answer_must, le-leb (d.start + d.size) (length b) h, ← et, f)
+
 -- an item whose part is there and whose type is taken
 module _ (b : List ℕ) (d : Item) (h : d.start + d.size ≤ length b) (t : Bool) (et : t ≡ is_taken (type_of d.element_type) d.element_type) (f : t ≡ true) where
   pub item_count : (n : ℕ) → refused n 0 ≡ answer (count_check d) [] → refused n 0 ≡ answer (item_check b d) []
@@ -37,6 +51,20 @@ module _ (b : List ℕ) (d : Item) (h : d.start + d.size ≤ length b) (t : Bool
   item_contents q y e =
       let k : d.start + d.size - d.start ≡ d.size = omega arith in
       simp (answer_bind, answer_must, le-leb (d.start + d.size) (length b) h, ← et, f, ← q, rw k at e)
+
+  module _ (q : ok tt ≡ answer (count_check d) []) (y : Bool) (ey : y ≡ contents_hold d.element_type d.count (take (d.start + d.size - d.start) (drop d.start b))) where
+    pub item_bad : y ≡ false → refused 11 0 ≡ answer (item_check b d) []
+    item_bad p = item_contents q false (sym p ∙ ey)
+
+    pub item_good : y ≡ true → ok tt ≡ answer (item_check b d) []
+    item_good p = item_contents q true (sym p ∙ ey)
+
+-- what the count's check leaves
+pub count_few : (d : Item) → ok tt ≡ answer (count_check d) [] → d.count < 0x80000000
+unfolding count_check holds
+count_few d e =
+    let z = bind_ok _ _ [] tt (sym e) in
+    leb-false _ _ (denied _ (must_ok _ _ _ [] z.0 z.1))
 
 -- a turn of the loop over items
 module _ (g : ℕ → Item) (b : List ℕ) (i : ℕ) (d : Item) (e : d ≡ g i) where
