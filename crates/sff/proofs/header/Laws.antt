@@ -4,10 +4,8 @@ use mathlib.Core.Path.{◌≡◌, subst}
 use mathlib.Core.List.{List}
 use native.Mathlib.Omega.{arith}
 use lib.ListN.{length, take}
-use Rattle.reading.specs.declared.check.Test as made
-use Rattle.reading.specs.Answers.{test_of}
 use Rattle.reading.specs.Number.{be}
-use Rattle.reading.specs.Check.{Outcome, passed, failed, short, ok, run, answer}
+use Rattle.reading.specs.Check.{Test, Outcome, passed, failed, short, ok, run, answer}
 use Rattle.reading.proofs.Steps.{run_bind, run_done, run_need_present, run_need_absent}
 use Rattle.reading.proofs.Passed.{bind_ok, must_ok, need_ok, done_ok}
 use Rattle.reading.proofs.Signed.{equal_to_is}
@@ -30,7 +28,7 @@ module _ (s : List ℕ) where
   header_short h = simp (run_bind, run_need_absent 0 31 s h)
 
   module _ (h : 31 ≤ length s) where
-    pub header_bad : (t : made.Test) → failed (test_of t) 0 ≡ tested s → failed (test_of t) 0 ≡ run header s
+    pub header_bad : (t : Test) → failed t 0 ≡ tested s → failed t 0 ≡ run header s
     unfolding header
     header_bad t m = simp (run_need_present 0 31 s h, run_bind, ← m)
 

@@ -8,14 +8,18 @@ use lib.ListN.{length, take, length-take}
 use lib.Dec.{leb, eqb}
 use borrow.Author.Tests.{leb-true}
 use Rattle.reading.specs.declared.check.Failure.{Failure}
+use Rattle.reading.specs.declared.check.Failure.TheVariants.{Failed, Short}
+use Rattle.reading.specs.declared.part.Span.{Span}
 use Rattle.reading.specs.Choice.{pick}
 use Rattle.reading.specs.Answers.{outcome_of_failure, refusal_of}
 use Rattle.reading.specs.Refusal.{number}
-use Rattle.reading.specs.Check.{passed, Answer, ok, refused, map_answer, run, answer, holds}
-use Rattle.reading.proofs.Cut.{run_ok}
+use Rattle.reading.specs.Check.{Test, Need, passed, failed, short, Answer, ok, refused, map_answer, answer_of_outcome, run, answer, holds}
+use Rattle.reading.specs.Part.{Part, part_of, part_within}
+use Rattle.reading.proofs.Cut.{answer_plain, run_ok}
 use Rattle.reading.proofs.Steps.{after, answer_bind, answer_done}
-use Rattle.reading.proofs.Passed.{bind_ok, done_ok, must_ok, bind_answered}
-use Rattle.reading.proofs.Results.{answer_wrong, stops_wrong}
+use Rattle.reading.proofs.Passed.{bind_ok, done_ok, must_ok, stops_failed, stops_short, bind_answered}
+use Rattle.reading.proofs.Results.{answer_wrong}
+use Rattle.reading.proofs.Parts.{part_there}
 use Rattle.sff_fields.specs.declared.header.Header.{Header}
 use Rattle.sff_fields.specs.declared.read.ReadHeader.{ReadHeader}
 use Rattle.sff.specs.declared.walk.Boundary.{Boundary}
@@ -129,9 +133,17 @@ number_fits s k r w =
 
 -- the read at a place, from where it ends
 module _ (f p : ℕ) (s : List ℕ) where
-  pub from_wrong : (w : Failure) → outcome_of_failure w 0 ≡ run (framing f p) s → refused (number (refusal_of w)) 0 ≡ answer (read_from f p) s
+  pub from_failed : (t : Test) → run (framing f p) s ≡ failed t 0 → refused t.number 0 ≡ answer (read_from f p) s
   unfolding framing read_from
-  from_wrong w h = answer_wrong _ s w 0 (stops_wrong (present_read f p) (λ r. read_end f r.fields) (λ r. read_contents f r.fields r.up_to) s w 0 h)
+  from_failed t h = sym (answer_plain _ s ∙ ap answer_of_outcome (stops_failed (present_read f p) (λ r. read_end f r.fields) (λ r. read_contents f r.fields r.up_to) s t 0 h))
+
+  pub from_short : (m : Need) → run (framing f p) s ≡ short m 0 → refused 1 0 ≡ answer (read_from f p) s
+  unfolding framing read_from
+  from_short m h = sym (answer_plain _ s ∙ ap answer_of_outcome (stops_short (present_read f p) (λ r. read_end f r.fields) (λ r. read_contents f r.fields r.up_to) s m 0 h))
+
+  pub from_wrong : (w : Failure) → outcome_of_failure w 0 ≡ run (framing f p) s → refused (number (refusal_of w)) 0 ≡ answer (read_from f p) s
+  from_wrong (Failed t) h = from_failed _ (sym h)
+  from_wrong (Short a m) h = from_short _ (sym h)
 
   module _ (e : ℕ) (h : run (framing f p) s ≡ passed e) where
     pub from_there : (p + 16 ≤ length s) × (e ≤ length s) × (read_end f (fields s p) ≡ e)
@@ -169,3 +181,7 @@ module _ (d : Header) (k : ℕ) (s : List ℕ) (b : Boundary) (h : answer (befor
   pub in_found : (c : Boundary) → run (skip_index d b) s ≡ passed c → answer (read_from d.flows c.position) s ≡ answer (read_in d k) s
   unfolding read_in
   in_found c q = simp (answer_bind, h, run_ok _ s c q)
+
+-- a part from the place that the code computed
+pub part_placed : (p : Part) (a n : ℕ) (q : Span) → (a ≡ q.start) × (n ≡ q.size) → q.start + q.size ≤ length p.bytes → part_within p a n ≡ part_of p q.start q.size
+part_placed p a n q e h = rw (e.0, e.1) (part_there p q.start q.size h)

@@ -4,10 +4,8 @@ use mathlib.Core.Path.{◌≡◌, refl, sym, ◌∙◌, ap, subst}
 use mathlib.Core.List.{List}
 use native.Mathlib.Omega.{arith}
 use lib.ListN.{length, take, drop}
-use Rattle.reading.specs.declared.check.Test as made
-use Rattle.reading.specs.Answers.{test_of}
 use Rattle.reading.specs.Number.{be}
-use Rattle.reading.specs.Check.{passed, failed, short, ok, run, answer}
+use Rattle.reading.specs.Check.{Test, passed, failed, short, ok, run, answer}
 use Rattle.reading.proofs.Width.{be_in_part, be_taken}
 use Rattle.reading.proofs.Signed.{equal_to_is}
 use Rattle.reading.proofs.Passed.{bind_ok, done_ok, must_ok, need_ok}
@@ -58,7 +56,7 @@ module _ (f p : ℕ) (s : List ℕ) where
         let z : p + 0 ≡ p = omega arith in
         (sym (ea ∙ field 2 0 p s (omega arith) ∙ ap (be 2 (take (p + 16) s)) z), sym (en ∙ field 2 2 p s (omega arith)), sym (eb ∙ field 4 4 p s (omega arith)))
 
-    pub frame_bad : (t : made.Test) → failed (test_of t) 0 ≡ run (read_length_check p a n) s → failed (test_of t) 0 ≡ run (framing f p) s
+    pub frame_bad : (t : Test) → failed t 0 ≡ run (read_length_check p a n) s → failed t 0 ≡ run (framing f p) s
     unfolding framing present_read present_data
     frame_bad t q = simp (run_bind, run_need_present p (p + 16) s h, field_start p s, known.0, known.1, ← q)
 

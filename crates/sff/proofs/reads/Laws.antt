@@ -8,12 +8,12 @@ use lib.ListN.{length, take, drop, length-append, length-drop}
 use lib.Seq.{take-length, drop-length, drop-drop, take_at, drop_at}
 use borrow.Author.Tests.{le-leb, lt-leb}
 use Rattle.reading.specs.declared.check.Failure.{Failure}
+use Rattle.reading.specs.declared.check.Failure.TheVariants.{Failed, Short}
 use Rattle.reading.specs.Answers.{outcome_of_failure, refusal_of}
 use Rattle.reading.specs.Refusal.{number}
-use Rattle.reading.proofs.Results.{answer_wrong}
-use Rattle.reading.specs.Check.{Outcome, passed, failed, short, Answer, ok, refused, run, answer, holds, done}
+use Rattle.reading.specs.Check.{Test, Need, Outcome, passed, failed, short, Answer, ok, refused, answer_of_outcome, run, answer, holds, done}
 use Rattle.reading.specs.Bulk.{left_from, fitting, record_of, records}
-use Rattle.reading.proofs.Cut.{run_ok, answer_ok, answer_same}
+use Rattle.reading.proofs.Cut.{run_ok, answer_ok, answer_plain, answer_same}
 use Rattle.reading.proofs.Steps.{then, answer_bind, answer_must, answer_done, answer_at, answer_need_present}
 use Rattle.reading.proofs.bulk.Laws as Bulk
 use Rattle.reading.proofs.Passed.{bind_ok, done_ok, map_refused}
@@ -28,7 +28,7 @@ use Rattle.sff.specs.Reads.{reads_at, reads_from, reads_in}
 use Rattle.sff_fields.specs.Parts.{read_numbers}
 use Rattle.sff.proofs.walk.Laws.{next_ok, past_within, walk_within, walk_any, walk_length}
 use Rattle.sff.proofs.walk.Reach.{walk_reach}
-use Rattle.sff.proofs.walk.Split.{walk_split, walk_join, past_plus, parts_wrong}
+use Rattle.sff.proofs.walk.Split.{walk_split, walk_join, past_plus}
 use Rattle.sff.proofs.Reach.{from_under}
 
 module _ (d : Header) (s : List ℕ) where
@@ -120,6 +120,20 @@ module _ (d : Header) (s : List ℕ) where
   farther_is (suc n) b w h =
       let f = first_of n b w h in
       rw f.passes (farther_is n f.read.behind f.rest f.goes_on ∙ ap (λ (x : Passage). x.behind) f.all)
+
+-- what passes neither fails nor is cut short
+module _ (r : Placed) (o : Outcome Placed) (h : o ≡ passed r) where
+  pub not_failed : (t : Test) (e : ℕ) → o ≡ failed t e → ⊥
+  not_failed t e k =
+      let z : ◌≡◌ {A = Outcome Placed} (failed t e) (passed r) = sym k ∙ h in
+      let y : ◌≡◌ {A = ℕ} 0 1 = cc in
+      omega arith
+
+  pub not_short : (m : Need) (e : ℕ) → o ≡ short m e → ⊥
+  not_short m e k =
+      let z : ◌≡◌ {A = Outcome Placed} (short m e) (passed r) = sym k ∙ h in
+      let y : ◌≡◌ {A = ℕ} 0 1 = cc in
+      omega arith
 
 -- what a walk over n reads has passed
 pub passage : (d : Header) (n i : ℕ) (b : Boundary) (s : List ℕ) (c : Boundary) → run (walk_past d n i b) s ≡ passed c → (w : Passage) × (answer (walk d n i b) s ≡ ok w) × (w.behind ≡ c)
@@ -240,15 +254,29 @@ module _ (d : Header) (n i : ℕ) (s : List ℕ) where
   unfolding reads_from walk_past
   walk_refused k e h = simp (answer_bind, answer_at, map_refused (walk d (i + n) 0 (first_boundary d)) (λ w. w.behind) s k e h)
 
+  pub first_failed : (t : Test) (e : ℕ) → run (walk_past d i 0 (first_boundary d)) s ≡ failed t e → refused t.number 0 ≡ answer (reads_from d n i) s
+  first_failed t e h = walk_refused t.number e (answer_plain _ s ∙ ap answer_of_outcome (past_plus d s i n 0 (first_boundary d) ∙ ap (λ (o : Outcome Boundary). then o (λ c. run (walk_past d n (0 + i) c) s)) h))
+
+  pub first_short : (m : Need) (e : ℕ) → run (walk_past d i 0 (first_boundary d)) s ≡ short m e → refused 1 0 ≡ answer (reads_from d n i) s
+  first_short m e h = walk_refused 1 e (answer_plain _ s ∙ ap answer_of_outcome (past_plus d s i n 0 (first_boundary d) ∙ ap (λ (o : Outcome Boundary). then o (λ c. run (walk_past d n (0 + i) c) s)) h))
+
   pub first_wrong : (f : Failure) (e : ℕ) → outcome_of_failure f e ≡ run (walk_past d i 0 (first_boundary d)) s → refused (number (refusal_of f)) 0 ≡ answer (reads_from d n i) s
-  first_wrong f e h = walk_refused _ e (sym (answer_wrong _ s f e (parts_wrong d s i (i + n) 0 (first_boundary d) (omega arith) f e h)))
+  first_wrong (Failed t) e h = first_failed _ e (sym h)
+  first_wrong (Short p m) e h = first_short _ e (sym h)
 
   module _ (b : Boundary) (h : run (walk_past d i 0 (first_boundary d)) s ≡ passed b) where
     both : run (walk_past d (i + n) 0 (first_boundary d)) s ≡ run (walk_past d n i b) s
     both = past_plus d s i n 0 (first_boundary d) ∙ ap (λ (o : Outcome Boundary). then o (λ c. run (walk_past d n (0 + i) c) s)) h ∙ ap (λ (j : ℕ). run (walk_past d n j b) s) (zero-add i)
 
+    pub then_failed : (t : Test) (e : ℕ) → run (walk_past d n i b) s ≡ failed t e → refused t.number 0 ≡ answer (reads_from d n i) s
+    then_failed t e k = walk_refused t.number e (answer_plain _ s ∙ ap answer_of_outcome (both ∙ k))
+
+    pub then_short : (m : Need) (e : ℕ) → run (walk_past d n i b) s ≡ short m e → refused 1 0 ≡ answer (reads_from d n i) s
+    then_short m e k = walk_refused 1 e (answer_plain _ s ∙ ap answer_of_outcome (both ∙ k))
+
     pub then_wrong : (f : Failure) (e : ℕ) → outcome_of_failure f e ≡ run (walk_past d n i b) s → refused (number (refusal_of f)) 0 ≡ answer (reads_from d n i) s
-    then_wrong f e k = walk_refused _ e (sym (answer_wrong _ s f e (k ∙ sym both)))
+    then_wrong (Failed t) e k = then_failed _ e (sym k)
+    then_wrong (Short p m) e k = then_short _ e (sym k)
 
     module _ (c : Boundary) (k : run (walk_past d n i b) s ≡ passed c) (u : d.header_length ≤ length s) where
       -- the walk over the n reads

@@ -1,6 +1,6 @@
 -- The walk over the reads, from the answers of its parts.
 use Prim.Native.Nat.{ℕ, zero, suc, ◌+◌, ◌-◌, ◌≤◌, ◌<◌}
-use mathlib.Core.Path.{◌≡◌, refl, ◌∙◌, ap, subst}
+use mathlib.Core.Path.{◌≡◌, refl, sym, ◌∙◌, ap, subst}
 use mathlib.Core.List.{List, [], ◌∷◌}
 use mathlib.Core.Bool.{Bool, true, false}
 use lib.ListN.{length}
@@ -10,11 +10,10 @@ use Rattle.reading.specs.declared.check.Failure.{Failure}
 use Rattle.reading.specs.declared.check.Failure.TheVariants.{Failed, Short}
 use Rattle.reading.specs.Answers.{outcome_of_failure, refusal_of}
 use Rattle.reading.specs.Choice.{pick}
-use Rattle.reading.specs.Check.{Test, Need, Outcome, passed, failed, short, ok, refused, run, answer, holds, done, need, ◌>>◌}
-use Rattle.reading.proofs.Cut.{run_ok, answer_ok}
+use Rattle.reading.specs.Check.{Test, Need, Outcome, passed, failed, short, ok, refused, answer_of_outcome, run, answer, holds, done, need, ◌>>◌}
+use Rattle.reading.proofs.Cut.{run_ok, answer_ok, answer_plain}
 use Rattle.reading.proofs.Steps.{then, run_bind, run_done, run_at, run_need_present, run_need_absent, answer_bind, answer_must, answer_done, answer_at, answer_at_entry}
 use Rattle.reading.specs.Refusal.{number}
-use Rattle.reading.proofs.Results.{answer_wrong, answer_passed}
 use Rattle.reading.proofs.Passed.{bind_ok, done_ok, must_ok, need_ok, at_ok}
 use Rattle.reading.proofs.Tests.{number_within}
 use Rattle.sff_fields.specs.declared.header.Header.{Header}
@@ -55,11 +54,22 @@ module _ (d : Header) (b : Boundary) (s : List ℕ) where
 
   module _ (i : ℕ) where
     -- the read behind, from what the index there and the read itself give
+    pub next_cut : (m : Need) → run (skip_index d b) s ≡ short m 0 → short m 0 ≡ run (next_read d i b) s
+    unfolding next_read
+    next_cut m h = simp (run_bind, h)
+
     module _ (c : Boundary) (h : passed c ≡ run (skip_index d b) s) where
-      pub next_wrong : (f : Failure) → outcome_of_failure f 0 ≡ run (framing d.flows c.position) s → outcome_of_failure f (i + 1) ≡ run (next_read d i b) s
+      pub next_failed : (t : Test) → run (framing d.flows c.position) s ≡ failed t 0 → failed t (i + 1) ≡ run (next_read d i b) s
       unfolding next_read
-      next_wrong (Failed t) q = simp (run_bind, ← h, run_at, ← q)
-      next_wrong (Short p m) q = simp (run_bind, ← h, run_at, ← q)
+      next_failed t q = simp (run_bind, ← h, run_at, q)
+
+      pub next_short : (m : Need) → run (framing d.flows c.position) s ≡ short m 0 → short m (i + 1) ≡ run (next_read d i b) s
+      unfolding next_read
+      next_short m q = simp (run_bind, ← h, run_at, q)
+
+      pub next_wrong : (f : Failure) → outcome_of_failure f 0 ≡ run (framing d.flows c.position) s → outcome_of_failure f (i + 1) ≡ run (next_read d i b) s
+      next_wrong (Failed t) q = next_failed _ (sym q)
+      next_wrong (Short p m) q = next_short _ (sym q)
 
       pub next_passed : (e : ℕ) → passed e ≡ run (framing d.flows c.position) s → passed (record { start = c.position; behind = record { position = e; met = c.met } }) ≡ run (next_read d i b) s
       unfolding next_read
@@ -157,11 +167,15 @@ module _ (d : Header) (k : ℕ) (s : List ℕ) where
       unfolding before_read holds
       before_walk = simp (answer_bind, answer_must, le-leb 1 k h, le-leb k d.reads l, answer_at)
 
+      pub before_outcome : (o : Outcome Boundary) → o ≡ run (walk_past d (k - 1) 0 (first_boundary d)) s → answer_at_entry 0 (answer_of_outcome o) ≡ answer (before_read d k) s
+      before_outcome o q = ap (λ (x : Outcome Boundary). answer_at_entry 0 (answer_of_outcome x)) q ∙ ap (answer_at_entry 0) (sym (answer_plain _ s)) ∙ before_walk
+
       pub before_wrong : (f : Failure) (e : ℕ) → outcome_of_failure f e ≡ run (walk_past d (k - 1) 0 (first_boundary d)) s → refused (number (refusal_of f)) 0 ≡ answer (before_read d k) s
-      before_wrong f e q = ap (answer_at_entry 0) (answer_wrong _ s f e q) ∙ before_walk
+      before_wrong (Failed t) e q = before_outcome _ q
+      before_wrong (Short p m) e q = before_outcome _ q
 
       pub before_found : (b : Boundary) → passed b ≡ run (walk_past d (k - 1) 0 (first_boundary d)) s → ok b ≡ answer (before_read d k) s
-      before_found b q = ap (answer_at_entry 0) (answer_passed _ s b q) ∙ before_walk
+      before_found b q = before_outcome (passed b) q
 
   -- where there is one, the read is one of the file's, the walk has come there, and the boundary lies within the file
   pub before_walked : (b : Boundary) → answer (before_read d k) s ≡ ok b → (1 ≤ k) × (k ≤ d.reads) × (answer (walk_past d (k - 1) 0 (first_boundary d)) s ≡ ok b)

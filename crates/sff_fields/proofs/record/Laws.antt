@@ -1,11 +1,11 @@
--- A read's record, where there is room for it.
-use Prim.Native.Nat.{ℕ, ◌+◌, ◌≤◌}
+-- A read's record, where there is room for it and where not.
+use Prim.Native.Nat.{ℕ, ◌+◌, ◌≤◌, ◌<◌}
 use mathlib.Core.Path.{◌≡◌, refl, ◌∙◌, ap}
 use mathlib.Core.List.{List}
 use native.Mathlib.Omega.{arith}
 use lib.ListN.{length}
 use lib.Seq.{sets, length-sets}
-use borrow.Author.Tests.{le-leb}
+use borrow.Author.Tests.{le-leb, lt-leb}
 use Rattle.reading.specs.Check.{Answer}
 use Rattle.reading.specs.Bulk.{record_of, placed}
 use Rattle.reading.proofs.bulk.Laws as Bulk
@@ -17,6 +17,9 @@ pub record_wide : (a : Answer Read) → length (record_of record_width read_numb
 record_wide = Bulk.record_wide record_width read_numbers (omega arith) (λ _. refl)
 
 module _ (o : List ℕ) (p : ℕ) (a : Answer Read) where
+  pub no_room : length o < p + record_width → o ≡ placed o p (record_of record_width read_numbers a)
+  no_room h = rw (record_wide a, lt-leb (p + record_width) (length o) h)
+
   -- what is written where there is room
   pub with_room : p + record_width ≤ length o → placed o p (record_of record_width read_numbers a) ≡ sets o p (record_of record_width read_numbers a)
   with_room h = rw (record_wide a, le-leb (p + record_width) (length o) h)
