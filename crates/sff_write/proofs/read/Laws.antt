@@ -1,13 +1,15 @@
 -- A read, from the answers of its checks and the writes of its pieces.
-use Prim.Native.Nat.{ℕ, ◌+◌, ◌*◌, ◌≤◌}
+use Prim.Native.Nat.{ℕ, ◌+◌, ◌*◌, ◌≤◌, ◌<◌}
 use mathlib.Core.Path.{◌≡◌, refl, sym, ◌∙◌, ap}
 use mathlib.Core.List.{List, [], ◌++◌, append_assoc}
-use mathlib.Core.Bool.{Bool, true}
+use mathlib.Core.Bool.{Bool, true, false}
 use native.Mathlib.Omega.{arith}
+use lib.Dec.{leb}
 use lib.ListN.{length, replicate, length-append, length-replicate}
-use borrow.Author.Tests.{leb-true, eqb-true}
+use borrow.Author.Tests.{le-leb, lt-leb, eq-eqb, ne_eqb, leb-true, eqb-true}
 use Rattle.reading.specs.Choice.{pick}
 use Rattle.reading.specs.Check.{ok, refused, answer, holds}
+use Rattle.reading.proofs.Steps.{answer_bind, answer_must}
 use Rattle.reading.proofs.Passed.{bind_ok, must_ok}
 use Rattle.sff_fields.specs.declared.read.ReadHeader.{ReadHeader}
 use Rattle.sff_fields.specs.Padding.{padding, padded}
@@ -45,6 +47,53 @@ fitting f r l u h =
 
 pub lengths_ok : (f : ℕ) (r : GivenRead) (b : Bool) → pick b (ok tt) (refused 9 0) ≡ answer (lengths_check f r) [] → b ≡ true → answer (lengths_check f r) [] ≡ ok tt
 lengths_ok f r b q h = sym q ∙ rw h
+
+-- the header length of a read
+module _ (n : ℕ) (l : List ℕ) where
+  pub name_long : 65535 < n → refused 9 0 ≡ answer (name_fits n) l
+  unfolding name_fits padded holds
+  name_long h =
+      let k : 65535 < padded (16 + n) = omega arith in
+      simp (answer_must, lt-leb _ _ k)
+
+  pub name_is : (z : ℕ) → z ≡ padding (16 + n) → pick (leb (16 + n + z) 65535) (ok tt) (refused 9 0) ≡ answer (name_fits n) l
+  unfolding name_fits padded holds
+  name_is z e = simp (answer_must, e)
+
+-- the lengths, from what the name's length answers
+module _ (f : ℕ) (r : GivenRead) (l : List ℕ) (a : Bool) (q : pick a (ok tt) (refused 9 0) ≡ answer (name_fits (length r.name)) l) where
+  pub lengths_name : a ≡ false → refused 9 0 ≡ answer (lengths_check f r) l
+  unfolding lengths_check
+  lengths_name h = simp (answer_bind, ← q, h)
+
+  module _ (h : a ≡ true) where
+    pub lengths_few : 65535 < f → refused 9 0 ≡ answer (lengths_check f r) l
+    unfolding lengths_check holds
+    lengths_few k = simp (answer_bind, answer_must, ← q, h, lt-leb _ _ k)
+
+    module _ (k : f ≤ 65535) where
+      pub lengths_flows : (length r.flows ≡ f → ⊥) → refused 9 0 ≡ answer (lengths_check f r) l
+      unfolding lengths_check holds
+      lengths_flows n = simp (answer_bind, answer_must, ← q, h, le-leb _ _ k, ne_eqb _ _ n)
+
+      module _ (e : length r.flows ≡ f) where
+        pub lengths_steps : (length r.steps ≡ length r.letters → ⊥) → refused 9 0 ≡ answer (lengths_check f r) l
+        unfolding lengths_check holds
+        lengths_steps n = simp (answer_bind, answer_must, ← q, h, le-leb _ _ k, eq-eqb _ _ e, ne_eqb _ _ n)
+
+        module _ (s : length r.steps ≡ length r.letters) where
+          pub lengths_qualities : (length r.qualities ≡ length r.letters → ⊥) → refused 9 0 ≡ answer (lengths_check f r) l
+          unfolding lengths_check holds
+          lengths_qualities n = simp (answer_bind, answer_must, ← q, h, le-leb _ _ k, eq-eqb _ _ e, eq-eqb _ _ s, ne_eqb _ _ n)
+
+          module _ (u : length r.qualities ≡ length r.letters) where
+            pub lengths_bases : 0xffffffff < length r.letters → refused 9 0 ≡ answer (lengths_check f r) l
+            unfolding lengths_check holds
+            lengths_bases n = simp (answer_bind, answer_must, ← q, h, le-leb _ _ k, eq-eqb _ _ e, eq-eqb _ _ s, eq-eqb _ _ u, lt-leb _ _ n)
+
+            pub lengths_clips : length r.letters ≤ 0xffffffff → (b : Bool) → pick b (ok tt) (refused 9 0) ≡ answer (clips_fit r.clips) l → pick b (ok tt) (refused 9 0) ≡ answer (lengths_check f r) l
+            unfolding lengths_check holds
+            lengths_clips n b v = simp (answer_bind, answer_must, ← q, h, le-leb _ _ k, eq-eqb _ _ e, eq-eqb _ _ s, eq-eqb _ _ u, le-leb _ _ n) v
 
 -- a length and its padding
 pub size_is : (n z : ℕ) → z ≡ padding n → n + z ≡ padded n
