@@ -1,27 +1,47 @@
 -- Items, from the answers of their parts.
 use Prim.Native.Nat.{ℕ, ◌+◌, ◌≤◌, ◌<◌, max}
-use mathlib.Core.Path.{◌≡◌, sym, ◌∙◌}
-use mathlib.Core.List.{List}
+use mathlib.Core.Path.{◌≡◌, refl, sym, ◌∙◌}
+use mathlib.Core.List.{List, [], ◌∷◌}
+use mathlib.Core.Bool.{Bool, true, false}
 use native.Mathlib.Omega.{arith}
 use lib.ListN.{length, take}
-use borrow.Author.Tests.{le-leb, lt-leb}
+use lib.Dec.{eqb}
+use borrow.Author.Tests.{eqb-true, le-leb, lt-leb}
+use Rattle.std.specs.Prelude.{Some, None}
+use Rattle.reading.specs.Choice.{pick}
 use Rattle.reading.specs.Number.{be, le}
 use Rattle.reading.specs.declared.check.Rule.TheVariants.{NotNegative}
-use Rattle.reading.specs.Check.{passed, failed, short, ok, holds, run, answer, ◌>>=◌}
+use Rattle.reading.specs.Check.{Test, passed, failed, short, ok, holds, run, answer, ◌>>=◌}
 use Rattle.reading.proofs.Needed.{reach}
 use Rattle.reading.proofs.Steps.{run_bind, run_must, run_done, run_need_present, run_need_absent, reach_must, reach_need, reach_done}
 use Rattle.reading.proofs.Cut.{reach_within, answer_ok}
 use Rattle.reading.proofs.Passed.{bind_ok, done_ok}
 use Rattle.reading.proofs.Reach.{reach_none}
 use Rattle.reading.proofs.Width.{byte_le, le_taken}
+use Rattle.reading.proofs.Match.{InNone}
 use Rattle.gtc.specs.declared.item.Stored.{Stored}
 use Rattle.gtc.specs.declared.item.Stored.TheVariants.{Value, Shaped}
 use Rattle.gtc.specs.declared.item.Shape.{Shape}
 use Rattle.gtc.specs.declared.item.Shape.TheVariants.{Text, Array, SnpArray, Scanner, Block}
 use Rattle.reading.specs.declared.item.ItemData.{ItemData}
 use Rattle.gtc.specs.declared.entry.Entry.{Entry}
-use Rattle.gtc.specs.Item.{string_end, scanner_rest, scanner_end, count_field, array_count, item_end, elements_of, snp_check, shape_check, shaped_check, item_check}
+use Rattle.gtc.specs.Item.{Row, listing_in, string_end, scanner_rest, scanner_end, count_field, array_count, item_end, elements_of, snp_check, shape_check, shaped_check, item_check}
 use Rattle.gtc.proofs.entry.Laws.{with_none_needed}
+
+-- the arms of a match with one for each row, the last of them first
+abbrev pub arms_of : List Row → List (List ℕ) → List (List ℕ)
+arms_of [] arms = arms
+arms_of (r ∷ rs) arms = arms_of rs ((r.id ∷ []) ∷ arms)
+
+-- what is in no arm has no row
+pub no_row_lem : (rs : List Row) (arms : List (List ℕ)) (k : ℕ) → InNone (arms_of rs arms) k → InNone arms k × (None ≡ listing_in rs k)
+unfolding listing_in
+no_row_lem [] arms k h = (h, refl)
+no_row_lem (r ∷ rs) arms k h = go (no_row_lem rs ((r.id ∷ []) ∷ arms) k h) (eqb k r.id) refl
+  where
+    go : InNone ((r.id ∷ []) ∷ arms) k × (None ≡ listing_in rs k) → (b : Bool) → eqb k r.id ≡ b → InNone arms k × (None ≡ pick b (Some r.stored) (listing_in rs k))
+    go u true q = absurd (u.0.1 (eqb-true k r.id q))
+    go u false q = (u.0.0, u.1)
 
 -- the count of the array at place p, in the bytes up to its end
 count_taken : (s : List ℕ) (p n : ℕ) → n ≡ le 4 s p → le 4 (take (p + 4) s) p ≡ n
@@ -35,6 +55,9 @@ module _ (s : List ℕ) (p : ℕ) (h : p + 4 ≤ length s) (n : ℕ) (q : n ≡ 
   pub count_at : n < 0x80000000 → passed n ≡ run (array_count p) s
   unfolding array_count holds
   count_at l = simp (run_bind, run_need_present p (p + 4) s h, count_taken s p n q, run_must, lt-leb 0x80000000 n l, run_done)
+
+pub failed_not : {A : Type 0} {w : Test} {e : ℕ} {a : A} → failed w e ≡ passed a → ⊥
+failed_not h = let z : ◌≡◌ {A = ℕ} 0 1 = cc in omega arith
 
 -- the length of the string at place p, in the bytes up to it
 length_taken : (s : List ℕ) (p n : ℕ) → n ≡ be 1 s p → le 1 (take (p + 1) s) p ≡ n

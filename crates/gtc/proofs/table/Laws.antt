@@ -5,11 +5,10 @@ use mathlib.Core.List.{List}
 use native.Mathlib.Omega.{arith}
 use lib.ListN.{length, take}
 use Rattle.reading.specs.Number.{be, le}
-use Rattle.reading.specs.declared.check.Test as code
-use Rattle.reading.specs.Check.{Outcome, passed, failed, short, ok, run, answer}
-use Rattle.reading.specs.Answers.{test_of}
-use Rattle.reading.proofs.Steps.{run_bind, run_done, run_need_present, run_need_absent}
-use Rattle.reading.proofs.Passed.{bind_ok, need_ok, done_ok}
+use Rattle.reading.specs.Check.{Check, Test, Outcome, passed, failed, short, ok, refused, run, answer, done, ◌>>=◌}
+use Rattle.reading.proofs.Steps.{run_bind, run_done, run_need_present, run_need_absent, answer_bind, answer_done}
+use Rattle.reading.proofs.Cut.{answer_plain, run_ok}
+use Rattle.reading.proofs.Passed.{bind_ok, need_ok, done_ok, bind_answered}
 use Rattle.reading.proofs.Width.{byte_le, le_split}
 use Rattle.gtc.specs.Table.{Table, header_size, table_end, mark_check, count_check, table}
 
@@ -39,12 +38,12 @@ module _ (s : List ℕ) where
   table_short h = simp (run_bind, run_need_absent 0 8 s h)
 
   module _ (h : 8 ≤ length s) where
-    pub table_mark : (t : code.Test) → identified s ≡ failed (test_of t) 0 → failed (test_of t) 0 ≡ run table s
+    pub table_mark : (t : Test) → identified s ≡ failed t 0 → failed t 0 ≡ run table s
     unfolding table
     table_mark t m = simp (run_need_present 0 8 s h, run_bind, m)
 
     module _ (m : identified s ≡ passed tt) where
-      pub table_count : (t : code.Test) → numbered s ≡ failed (test_of t) 0 → failed (test_of t) 0 ≡ run table s
+      pub table_count : (t : Test) → numbered s ≡ failed t 0 → failed t 0 ≡ run table s
       unfolding table
       table_count t k = simp (run_need_present 0 8 s h, run_bind, m, k)
 
@@ -71,3 +70,28 @@ table_found s t w =
     let d = bind_ok _ _ s t c.2 in
     let e = bind_ok _ _ s t d.2 in
     close s e.0 _ t.count t (done_ok _ _ s e.2) refl (need_ok _ _ s e.0 e.1)
+
+pub table_at : (s : List ℕ) (n : ℕ) → answer (table >>= (λ t. done t.count)) s ≡ ok n → (table_end n ≤ length s) × (answer table s ≡ ok (table_in s n))
+table_at s n w =
+    let a = bind_ok table (λ t. done t.count) s n w in
+    let f = table_found s a.0 a.1 in
+    let e : a.0.count ≡ n = done_ok _ _ s a.2 in
+    (rw (← e) f.0, rw (← e) (a.1 ∙ ap ok f.1))
+
+-- what the code has read of the table
+module _ (s : List ℕ) where
+  pub count_known : (t : Table) → passed t ≡ run table s → answer (table >>= (λ t. done t.count)) s ≡ ok t.count
+  count_known t q = simp (answer_bind, run_ok table s t (sym q), answer_done)
+
+  -- a call that begins with the table's checks: refused where they are, else what follows them
+  module _ {B : Type 0} (f : Table → Check B) where
+    pub after_failed : (t : Test) → failed t 0 ≡ run table s → refused t.number 0 ≡ answer (table >>= f) s
+    after_failed t q = simp (answer_bind, answer_plain, ← q)
+
+    pub after_short : (p m : ℕ) → short (record { start = p; end = m }) 0 ≡ run table s → refused 1 0 ≡ answer (table >>= f) s
+    after_short p m q = simp (answer_bind, answer_plain, ← q)
+
+    pub after_count : (t : Table) → passed t ≡ run table s → (e : ℕ) → e ≡ table_end t.count → answer (f (record { count = t.count; up_to = take e s })) s ≡ answer (table >>= f) s
+    after_count t q e h =
+        let a = run_ok table s t (sym q) in
+        rw h (bind_answered table f s _ (a ∙ ap ok (table_found s t a).1))
