@@ -3,8 +3,9 @@ use Prim.Native.Nat.{ℕ, ◌+◌, ◌-◌, ◌*◌, ◌≤◌}
 use mathlib.Core.Path.{◌≡◌, refl, ◌∙◌, ap}
 use mathlib.Core.List.{List}
 use mathlib.Core.Bool.{true, false}
+use native.Mathlib.Nat.{add-sub_cancel_left}
 use native.Mathlib.Omega.{arith}
-use lib.ListN.{length, take}
+use lib.ListN.{length, take, drop, length-take, length-drop}
 use Rattle.reading.specs.Choice.{is_number_of}
 use Rattle.reading.specs.Number.{le}
 use Rattle.reading.specs.Refusal.{number}
@@ -28,7 +29,11 @@ use Rattle.gtc.specs.Lookup.{looking_up}
 use Rattle.gtc.proofs.Arrays.{of_snps, same_count}
 use Rattle.gtc.proofs.lookup.Laws.{lookup_within}
 use Rattle.gtc_records.specs.Snp.{call_arrays, intensity_arrays, snp_arrays, SnpBytes, snp_bytes, is_base_call, snp_at, snp_of}
-use Rattle.gtc_records.specs.Private.{bytes_in, ArraysPresent, ArraysSized}
+use Rattle.gtc_records.specs.Private.{bytes_in, ArraysPresent, ArraysSized, ElementsPresent}
+
+-- an array's elements, cut out of the file
+pub part_elements : (s : List ℕ) (q : ItemData) → take (item_end q - q.start) (drop q.start s) ≡ bytes_at s (data_span q)
+part_elements s q = rw add-sub_cancel_left
 
 -- they are the same in the bytes up to their end
 elements_kept : (s : List ℕ) (q : ItemData) → bytes_at (take (item_end q) s) (data_span q) ≡ bytes_at s (data_span q)
@@ -113,6 +118,32 @@ arrays_sized s a w =
     let p = same_count 2 1 s _ _ x g in
     let q = same_count 2 1 s _ _ y g in
     record { genotypes = g.size ∙ omega arith; base_calls = b.size ∙ omega arith; scores = f.size ∙ omega arith; x = x.size ∙ omega arith; y = y.size ∙ omega arith }
+
+length_elements : (s : List ℕ) (q : ItemData) → item_end q ≤ length s → length (bytes_at s (data_span q)) ≡ q.size
+length_elements s q h = simp (length-drop, length-take) (omega arith)
+
+pub elements_there : (s : List ℕ) (a : SnpArrays) → ArraysPresent s a → ArraysSized a → ElementsPresent (bytes_in s a) a.genotypes.count
+elements_there s a p z =
+    let g = length_elements s a.genotypes p.genotypes in
+    let b = length_elements s a.base_calls p.base_calls in
+    let f = length_elements s a.scores p.scores in
+    let x = length_elements s a.x p.x in
+    let y = length_elements s a.y p.y in
+    let u = z.genotypes in
+    let v = z.base_calls in
+    let w = z.scores in
+    let m = z.x in
+    let n = z.y in
+    record { genotypes = omega arith; base_calls = omega arith; scores = omega arith; x = omega arith; y = omega arith }
+
+pub elements_within : (b : SnpBytes) (m n : ℕ) → m ≤ n → ElementsPresent b n → ElementsPresent b m
+elements_within b m n h e =
+    let g = e.genotypes in
+    let c = e.base_calls in
+    let f = e.scores in
+    let x = e.x in
+    let y = e.y in
+    record { genotypes = omega arith; base_calls = omega arith; scores = omega arith; x = omega arith; y = omega arith }
 
 -- the record of a SNP, from its code and its letters
 module _ (b : SnpBytes) (j : ℕ) (l : List ℕ) (code : ℕ) (is-code : code ≡ le 1 b.genotypes j) where

@@ -1,6 +1,6 @@
 -- The records of many SNPs.
 use Prim.Native.Nat.{ℕ, zero, suc, ◌+◌, ◌-◌, ◌*◌, ◌/◌, ◌≤◌, ◌<◌}
-use mathlib.Core.Path.{◌≡◌, refl, sym, ◌∙◌, ap}
+use mathlib.Core.Path.{◌≡◌, refl, sym, ◌∙◌, ap, subst}
 use mathlib.Core.Bool.{true, false}
 use mathlib.Core.List.{List, [], ◌++◌}
 use native.Mathlib.Omega.{arith}
@@ -13,7 +13,7 @@ use Rattle.reading.specs.Lent.{filled}
 use Rattle.reading.specs.Bulk.{left_from, fitting, record_of}
 use Rattle.reading.proofs.Steps.{answer_bind, answer_must, answer_done}
 use Rattle.reading.proofs.bulk.Laws as Bulk
-use Rattle.reading.proofs.Fill.{Filling, fill_record}
+use Rattle.reading.proofs.Fill.{Filling, fill_start, fill_record}
 use Rattle.gtc_records.specs.declared.snp.SnpArrays.{SnpArrays}
 use Rattle.gtc_records.specs.declared.snp.Snp.{Snp}
 use Rattle.gtc_records.specs.Snp.{SnpBytes, snp_at}
@@ -39,14 +39,24 @@ abbrev pub ahead : SnpBytes → ℕ → ℕ → List ℕ
 ahead b k m = snp_records (snps_at b (m / 9) k)
 
 module _ (b : SnpBytes) where
+  pub fill_first : (n j : ℕ) (o : List ℕ) → 9 * n ≤ length o → Filling (ahead b j) (9 * n) 0 o o (snp_records (snps_at b n j) ++ drop (9 * n) o)
+  fill_first n j o h =
+      let e : 9 * n / 9 ≡ n = omega arith in
+      subst (λ (i : ℕ). Filling (ahead b j) (9 * n) 0 o o (snp_records (snps_at b i j) ++ drop (9 * n) o)) e (fill_start (ahead b j) (9 * n) o h)
+
+  -- SNP k, in the record at any place
+  pub fill_at : (k n i : ℕ) (o out whole : List ℕ) → Filling (ahead b k) n i o out whole → i + 9 ≤ n → Filling (ahead b (k + 1)) n (i + 9) o (sets out i (record_of snp_width snp_numbers (answer (snp_at b k) []))) whole
+  unfolding snps_at
+  fill_at k n i o out whole f h =
+      let r = answer (snp_at b k) [] in
+      fill_record (ahead b k) n i o out whole f (record_of snp_width snp_numbers r) 9 (record_wide r) h (ahead b (k + 1)) (λ m. let q : (9 + m) / 9 ≡ suc (m / 9) = omega arith in rw q)
+
   -- SNP j + i, in the record behind those of i SNPs
   pub fill_snp : (j n i : ℕ) (o out whole : List ℕ) → Filling (ahead b (j + i)) (9 * n) (9 * i) o out whole → i < n → Filling (ahead b (j + (i + 1))) (9 * n) (9 * (i + 1)) o (sets out (9 * i) (record_of snp_width snp_numbers (answer (snp_at b (j + i)) []))) whole
-  unfolding snps_at
   fill_snp j n i o out whole f h =
-      let r = answer (snp_at b (j + i)) [] in
       let k : j + (i + 1) ≡ j + i + 1 = omega arith in
       let p : 9 * (i + 1) ≡ 9 * i + 9 = omega arith in
-      rw (k, p) (fill_record (ahead b (j + i)) (9 * n) (9 * i) o out whole f (record_of snp_width snp_numbers r) 9 (record_wide r) (omega arith) (ahead b (j + i + 1)) (λ m. let q : (9 + m) / 9 ≡ suc (m / 9) = omega arith in rw q))
+      rw (k, p) (fill_at (j + i) (9 * n) (9 * i) o out whole f (omega arith))
 
 -- there is no such SNP
 pub of_none : (s : List ℕ) (a : SnpArrays) (first : ℕ) → is_number_of first a.genotypes.count ≡ false → (room : ℕ) → answer (snps_of a first room) s ≡ refused 12 0
