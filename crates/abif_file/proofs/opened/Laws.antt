@@ -6,9 +6,7 @@ use mathlib.Core.Bool.{Bool, true, false}
 use lib.Dec.{eqb}
 use borrow.Author.Tests.{eq-eqb, ne_eqb, eqb-true, eqb-false}
 use Rattle.reading.specs.Check.{Check, ok, refused, answer, holds}
-use Rattle.reading.specs.declared.refusal.Refusal.{Refusal}
-use Rattle.reading.specs.Refusal.{number}
-use Rattle.reading.proofs.Results.{answer_refused, answer_ok}
+use Rattle.reading.proofs.Results.{answer_ok}
 use Rattle.reading.proofs.Steps.{answer_bind, answer_must}
 use Rattle.reading.proofs.Passed.{bind_ok, map_refused, bind_refused, bind_answered}
 use Rattle.abif.specs.Directory.{directory, opening}
@@ -32,9 +30,9 @@ module _ (s : List ℕ) (p n x y : ℕ) (h : answer opening s ≡ ok (x, y)) whe
 
 -- a later call t: refused where the place and count are, else what t answers
 module _ {A : Type 0} (p n : ℕ) (t : Check A) (s : List ℕ) where
-  pub later_refused : (r : Refusal) → refused (number r) 0 ≡ answer (same_directory p n) s → refused (number r) 0 ≡ answer (of_opened p n t) s
+  pub later_refused : (k : ℕ) → refused k 0 ≡ answer (same_directory p n) s → refused k 0 ≡ answer (of_opened p n t) s
   unfolding of_opened
-  later_refused r h = answer_refused (same_directory p n) s (λ _. t) r 0 h
+  later_refused k h = bind_refused (same_directory p n) (λ _. t) s k 0 (sym h)
 
   pub later_same : ok tt ≡ answer (same_directory p n) s → answer t s ≡ answer (of_opened p n t) s
   unfolding of_opened
