@@ -40,10 +40,14 @@ name_reached name k = leb name (get_or table k no_row).first.name
 abbrev pub row_if : ℕ → ℕ → Option Row
 row_if profile k = pick (ltb k row_count) (Some (row_at profile k)) None
 
+-- a finding of the code as the definition has it
+abbrev pub finding_of : code.Finding → Finding
+finding_of f = record { tag = f.tag; kind = kind_number f.kind }
+
 -- what the code has found of a tag
 abbrev pub told : Option code.Finding → List Finding
 told None = []
-told (Some f) = record { tag = f.tag; kind = kind_number f.kind } ∷ []
+told (Some f) = finding_of f ∷ []
 
 -- entry i, counted from 0, of the directory at this place, as the code sorts it
 abbrev pub tagged : List ℕ → ℕ → ℕ → Tagged

@@ -5,6 +5,7 @@ ghost use Rattle.reading.specs.Lent.{filled};
 ghost use Rattle.reading.specs.Answers.{answer_of};
 ghost use Rattle.abif_tags.specs.Report.{finding_numbers, reporting, checking_tags};
 
+use crate::finding::{Finding, Kind, put_all};
 use crate::order::{Tagged, sort};
 use crate::profile::Profile;
 use crate::report::SideBySide;
@@ -23,8 +24,14 @@ const FIRST: Tagged = Tagged {
     entry: 0,
 };
 
-// No report has more numbers: three for each entry and each row.
-const MOST_NUMBERS: usize = 3 * (MOST_ENTRIES + ROW_COUNT);
+// No report has more findings: one for each entry and each row.
+const MOST_FINDINGS: usize = MOST_ENTRIES + ROW_COUNT;
+
+// What stands in a list of findings before it is filled.
+const FIRST_FINDING: Finding = Finding {
+    tag: Tag { name: 0, number: 0 },
+    kind: Kind::Missing,
+};
 
 // The report on the entries of the directory at this place, which the bytes end with.
 fn check_entries(
@@ -50,12 +57,12 @@ fn check_entries(
         profile,
     };
     // Gathered first, since a refused call leaves the lent list as it was.
-    let mut found = [0; MOST_NUMBERS];
+    let mut found = [FIRST_FINDING; MOST_FINDINGS];
     let m = report.tell(&mut found);
     if out.len() < 3 * m {
         return Err(Refusal::NoRoom);
     }
-    out[..3 * m].copy_from_slice(&found[..3 * m]);
+    put_all(out, &found[..m]);
     Ok(m as u64)
 }
 

@@ -1,8 +1,8 @@
 // What is found of a tag, and its numbers.
-ghost use Rattle.std.specs.Prelude.{◌≡◌, ◌+◌, ◌*◌, ◌≤◌, length, Some};
+ghost use Rattle.std.specs.Prelude.{◌≡◌, ◌++◌, ◌+◌, ◌*◌, ◌≤◌, length, map, drop, Some};
 ghost use Rattle.std.proofs.lemmas.List.Edits.{sets};
 ghost use Rattle.abif_tags.specs.Report.{finding_numbers};
-ghost use Rattle.abif_tags.specs.Private.{told};
+ghost use Rattle.abif_tags.specs.Private.{finding_of, told};
 
 use abif::tag::Tag;
 
@@ -36,11 +36,21 @@ pub(crate) struct Finding {
 }
 
 // Puts a finding's three numbers behind those of m findings.
-pub(crate) fn put(out: &mut [i64], m: usize, finding: Finding)
+fn put(out: &mut [i64], m: usize, finding: Finding)
     requires { 3 * m + 3 ≤ length out.old }
     ensures { out.new ≡ sets out.old (3 * m) (finding_numbers (told (Some finding))) }
 {
     out[3 * m] = finding.tag.name.into();
     out[3 * m + 1] = finding.tag.number.into();
     out[3 * m + 2] = finding.kind.into();
+}
+
+// Puts the numbers of these findings at the output's front.
+pub(crate) fn put_all(out: &mut [i64], findings: &[Finding])
+    requires { 3 * length findings.now ≤ length out.old }
+    ensures { out.new ≡ finding_numbers (map finding_of findings.now) ++ drop (3 * length findings.now) out.old }
+{
+    for (m, finding) in findings.iter().enumerate() {
+        put(out, m, *finding);
+    }
 }

@@ -1,8 +1,8 @@
 // The report of a file's tags against a profile.
-ghost use Rattle.std.specs.Prelude.{◌≡◌, ◌++◌, ◌+◌, ◌*◌, ◌≤◌, ◌<◌, length, drop, All};
+ghost use Rattle.std.specs.Prelude.{◌≡◌, ◌++◌, ◌+◌, ◌*◌, ◌≤◌, ◌<◌, length, map, take, drop, All};
 ghost use Rattle.abif_tags.specs.Order.{tag_at};
 
-use crate::finding::{Finding, Kind, put};
+use crate::finding::{Finding, Kind};
 use crate::order::Tagged;
 use crate::profile::Profile;
 use crate::table::{Presence, ROW_COUNT, row_at, row_for};
@@ -22,8 +22,8 @@ pub(crate) struct SideBySide<'a> {
 
 impl<'a> SideBySide<'a> {
     ghost use Rattle.abif.specs.Entry.{entry_of};
-    ghost use Rattle.abif_tags.specs.Report.{of_entry, finding_numbers};
-    ghost use Rattle.abif_tags.specs.Private.{told, left};
+    ghost use Rattle.abif_tags.specs.Report.{of_entry};
+    ghost use Rattle.abif_tags.specs.Private.{finding_of, told, left};
 
     // What is found of an entry.
     fn of_entry(&self, at: Tagged) -> Option<Finding>
@@ -75,11 +75,12 @@ impl<'a> SideBySide<'a> {
         }
     }
 
-    // The report, at the output's front, and how many findings it has.
-    pub(crate) fn tell(&self, out: &mut [i64]) -> usize
-        requires { 3 * (length self.now.order.now + ROW_COUNT) ≤ length out.old }
+    // The report, at the list's front, and how many findings it has.
+    pub(crate) fn tell(&self, out: &mut [Finding]) -> usize
+        requires { length self.now.order.now + ROW_COUNT ≤ length out.old }
         ensures value { result ≡ length (left self.now 0 0) }
-        ensures out_after { (3 * result ≤ length out.old) × (out.new ≡ finding_numbers (left self.now 0 0) ++ drop (3 * result) out.old) }
+        ensures out_after { (result ≤ length out.old) × (map finding_of (take result out.new) ≡ left self.now 0 0)
+            × (drop result out.new ≡ drop result out.old) }
     {
         let n = self.order.len();
         let mut i = 0;
@@ -89,7 +90,7 @@ impl<'a> SideBySide<'a> {
         while i + j < n + ROW_COUNT {
             let (found, entries, rows) = self.step(i, j);
             if let Some(finding) = found {
-                put(out, m, finding);
+                out[m] = finding;
                 m += 1;
             }
             i = entries;

@@ -19,9 +19,10 @@ use Rattle.abif_tags.specs.Order.{in_tag_order}
 use Rattle.abif_tags.specs.Report.{Finding, finding_numbers, side_by_side, report, reporting, checking_whole, checking_tags}
 use Rattle.abif_tags.specs.Table.{table, row_in}
 use Rattle.abif_tags.specs.declared.order.Tagged.{Tagged}
-use Rattle.abif_tags.specs.Private.{tagged}
+use Rattle.abif_tags.specs.declared.finding.Finding as code
+use Rattle.abif_tags.specs.Private.{tagged, finding_of}
 use Rattle.abif_tags.proofs.order.Laws.{length_order, entries_told}
-use Rattle.abif_tags.proofs.report.Laws.{numbers_length}
+use Rattle.abif_tags.proofs.finding.Laws.{numbers_length}
 
 -- the next of n numbers that are copied
 pub copied_next : (found : List ℤ) (i : ℕ) → i < length found → (m : ℕ) → take (suc m) (drop i found) ≡ get_or found i (pos 0) ∷ take m (drop (i + 1) found)
@@ -67,6 +68,12 @@ module _ (profile : ℕ) (bytes : List ℕ) (place n : ℕ) (order : List Tagged
           let k : length v ≡ 3 * m = numbers_length (report profile Of) ∙ ap (λ (x : ℕ). 3 * x) (sym count_is) in
           let t : front ≡ v = a ∙ ap (take (3 * m)) (f ∙ ap (λ (x : List Finding). finding_numbers x ++ o) report_is) ∙ take_at v o (3 * m) k in
           ap (λ (x : List ℤ). x ++ drop (3 * m) out) t ∙ ap (λ (x : ℕ). v ++ drop x out) (sym k) ∙ ap (λ (x : Answer (List Finding)). filled (map_answer finding_numbers x) out) (reported l)
+
+      -- the numbers of what was found are put at the output's front
+      pub all_put : (findings : List code.Finding) → map finding_of findings ≡ Findings → (out : List ℤ) (l : List ℕ) → finding_numbers (map finding_of findings) ++ drop (3 * length findings) out ≡ filled (map_answer finding_numbers (answer (reporting profile room Of) l)) out
+      all_put findings f out l =
+          let k : length (finding_numbers (map finding_of findings)) ≡ 3 * length findings = numbers_length (map finding_of findings) ∙ ap (λ (x : ℕ). 3 * x) (length-map findings finding_of) in
+          ap (λ (x : ℕ). finding_numbers (map finding_of findings) ++ drop x out) (sym k) ∙ ap (λ (x : List Finding). filled (ok (finding_numbers x)) out) (f ∙ report_is) ∙ ap (λ (x : Answer (List Finding)). filled (map_answer finding_numbers x) out) (reported l)
 
 -- the profile
 pub one_of_eight : (p : ℕ) → 1 ≤ p → p ≤ 8 → is_number_of p 8 ≡ true

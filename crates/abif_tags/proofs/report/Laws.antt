@@ -12,8 +12,10 @@ use Rattle.reading.specs.Choice.{pick}
 use native.Mathlib.Omega.{arith}
 use lib.IntN.{ℤ, pos}
 use borrow.Author.Tests.{lt-ltb}
-use lib.ListN.{length, get_or, take, drop, set, length-append, drop_of_length-le, take-append-drop, get_or-map, length-map}
-use lib.Seq.{drop-cons, drop-drop, sets, sets-eq, length-sets, drop_at, length-take-le}
+use native.Mathlib.Numerals.{add-one}
+use lib.ListN.{length, get_or, take, drop, set, length-append, drop_of_length-le, take-append-drop, get_or-map, length-map, length-set}
+use lib.Seq.{drop-cons, drop-drop, sets, sets-eq, length-sets, drop_at, take-suc-set, drop-set-lt, length-take-le}
+use Rattle.std.proofs.lemmas.List.{map-append}
 use Rattle.reading.proofs.Fill.{front_sets}
 use Rattle.abif.specs.declared.tag.Tag.{Tag}
 use Rattle.abif.specs.Tag.{tag_of, tag_below}
@@ -29,7 +31,8 @@ use Rattle.abif_tags.specs.declared.order.Tagged.{Tagged}
 use Rattle.abif_tags.specs.Kind.{kind_number}
 use Rattle.abif_tags.specs.declared.finding.Kind.TheVariants.{OtherType, NotInProfile}
 use Rattle.abif_tags.specs.declared.finding.Finding as code
-use Rattle.abif_tags.specs.Private.{row_if, told}
+use Rattle.abif_tags.specs.Private.{row_if, finding_of, told}
+use Rattle.abif_tags.proofs.finding.Laws.{numbers_length}
 use Rattle.std.specs.Prelude.{Option, Some, None}
 
 -- what is found of an entry, from the row that stands for its tag
@@ -168,14 +171,10 @@ module _ (profile : ℕ) (bytes : List ℕ) (place : ℕ) (entries : List Tagged
         unfolding side_by_side up_to_row
         left_above o = rw (row_here j h, ← e, q, entry_here i k, level Greater refl o, over Greater o)
 
--- three numbers for each finding
+-- the numbers of findings behind findings
 numbers_append : (a b : List Finding) → finding_numbers (a ++ b) ≡ finding_numbers a ++ finding_numbers b
 numbers_append [] b = refl
 numbers_append (f ∷ a) b = ap (λ (l : List ℤ). pos f.tag.name ∷ f.tag.number ∷ pos f.kind ∷ l) (numbers_append a b)
-
-pub numbers_length : (a : List Finding) → length (finding_numbers a) ≡ 3 * length a
-numbers_length [] = refl
-numbers_length (f ∷ a) = ap (λ (n : ℕ). suc (suc (suc n))) (numbers_length a) ∙ omega arith
 
 -- a finding's numbers, one by one
 pub told_numbers : (out : List ℤ) (m : ℕ) (f : code.Finding) → set (set (set out (3 * m) (pos f.tag.name)) (3 * m + 1) f.tag.number) (3 * m + 2) (pos (kind_number f.kind)) ≡ sets out (3 * m) (finding_numbers (told (Some f)))
@@ -227,3 +226,28 @@ module _ (whole rest : List Finding) (m : ℕ) (o out : List ℤ) (w : Written w
       let c : m + length rest ≡ length whole = w.count in
       let z : length rest ≡ 0 = ap length e in
       (omega arith, sym (take-append-drop (3 * m) out) ∙ ap (λ (x : List ℤ). take (3 * m) out ++ x) w.behind ∙ ap (λ (x : List ℤ). x ++ drop (3 * m) o) (sym (append-nil (take (3 * m) out)) ∙ ap (λ (x : List Finding). take (3 * m) out ++ finding_numbers x) (sym e) ∙ w.front))
+
+-- A report is gathered up to m findings, and these are left.
+pub record Gathered (whole rest : List Finding) (m : ℕ) (o out : List code.Finding) : Type 0 where
+  pub front : map finding_of (take m out) ++ rest ≡ whole
+  pub behind : drop m out ≡ drop m o
+  pub same : length out ≡ length o
+
+module _ (whole rest : List Finding) (m : ℕ) (o out : List code.Finding) (g : Gathered whole rest m o out) where
+  -- the next finding is gathered
+  pub gathered_next : m < length o → (f : code.Finding) (rest' : List Finding) → rest ≡ told (Some f) ++ rest' → Gathered whole rest' (m + 1) o (set out m f)
+  gathered_next h f rest' e =
+      let s : length out ≡ length o = g.same in
+      let t : take (suc m) (set out m f) ≡ take m out ++ (f ∷ []) = take-suc-set out m f (omega arith) in
+      record {
+        front = rw (add-one m, t, map-append finding_of (take m out) (f ∷ []), append_assoc) (ap (λ (x : List Finding). map finding_of (take m out) ++ x) (sym e) ∙ g.front);
+        behind = drop-set-lt (m + 1) out m f (omega arith) ∙ sym (drop-drop 1 m out) ∙ ap (drop 1) g.behind ∙ drop-drop 1 m o;
+        same = length-set out m f ∙ s;
+      }
+
+  -- none is left
+  pub gathered_end : rest ≡ [] → m ≤ length o → (m ≡ length whole) × (map finding_of (take m out) ≡ whole)
+  gathered_end e h =
+      let s : length out ≡ length o = g.same in
+      let w : map finding_of (take m out) ≡ whole = sym (append-nil (map finding_of (take m out))) ∙ ap (λ (x : List Finding). map finding_of (take m out) ++ x) (sym e) ∙ g.front in
+      (sym (length-take-le m out (omega arith)) ∙ sym (length-map (take m out) finding_of) ∙ ap length w, w)

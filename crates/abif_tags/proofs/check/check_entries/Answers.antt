@@ -9,7 +9,7 @@ use Rattle.abif_tags.specs.Order.{in_tag_order}
 use Rattle.abif_tags.specs.Report.{Finding, finding_numbers}
 use Rattle.abif_tags.specs.Private.{tagged}
 use Rattle.abif_tags.proofs.order.Laws.{tags_told}
-use Rattle.abif_tags.proofs.check.Laws.{no_room, counted, copied}
+use Rattle.abif_tags.proofs.check.Laws.{no_room, counted, all_put}
 use Rattle.abif_tags.proofs.check.check_entries.Goals as goal
 
 pub invariant_of-report : goal.invariant_of-report
@@ -34,5 +34,5 @@ returns c =
     let sorted : c.sort.new.order ≡ map (tagged g.bytes.now g.place) (in_tag_order g.bytes.now g.place g.count) = c.sort.ensures ∙ ap (λ (k : ℕ). map (tagged g.bytes.now g.place) (in_tag_order g.bytes.now g.place k)) n in
     record {
       result_value = counted g.profile.number g.bytes.now g.place g.count _ sorted _ t.value (length g.out.now) c.if-out-m.false;
-      out_after = copied g.profile.number g.bytes.now g.place g.count _ sorted _ t.value (length g.out.now) c.if-out-m.false _ _ g.out.now _ t.out_after.1 c.copy_from_slice.ensures.after;
+      out_after = λ l. c.put_all.ensures ∙ all_put g.profile.number g.bytes.now g.place g.count _ sorted _ t.value (length g.out.now) c.if-out-m.false _ t.out_after.1 g.out.now l;
     }
