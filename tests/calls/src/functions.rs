@@ -13,7 +13,7 @@ pub struct Function {
     /// With the crate and the module in front, but for a C function.
     pub name: String,
     pub is_lent_bytes: bool,
-    /// It is given the place that an opened file carries, or the opened file itself.
+    /// It is given the place that an opened file carries, or the opened file itself; any `self` may be one, since a type that holds no bytes may hold a place.
     pub is_given_a_place: bool,
     /// Its promise is of an opened file.
     pub is_of_opened: bool,
@@ -171,8 +171,8 @@ impl File<'_> {
             found.push(Function {
                 name: self.name(before_generics(name)),
                 is_lent_bytes: is_self_lent || hold_bytes(parameters, holders),
-                is_given_a_place: is_self_lent
-                    || names(parameters).any(|name| name == "place" || holders.contains(name)),
+                is_given_a_place: names(parameters)
+                    .any(|name| ["self", "place"].contains(&name) || holders.contains(name)),
                 is_of_opened: promise
                     .iter()
                     .any(|word| self.origins.is_one(word, &[OF_OPENED])),

@@ -191,7 +191,7 @@ const NEW_CALLS: [Change; 20] = [
 ];
 
 /// Calls whose promise cites another definition than their constructor has.
-const OTHER_DEFINITIONS: [Change; 15] = [
+const OTHER_DEFINITIONS: [Change; 17] = [
     (
         JUDGE,
         "verdict_of judging",
@@ -239,6 +239,18 @@ const OTHER_DEFINITIONS: [Change; 15] = [
         "of_opened place count (looking_up name)",
         "looking_up name",
         &["toy_file::opened::lookup: it is given an opened file's place, but its ensures is not of it"],
+    ),
+    (
+        OPENED,
+        "pub fn lookup(s: &[u8], place: u64, count: u64, name: u32) -> Found\n    ensures { found result ≡ answer (of_opened place count (looking_up name))",
+        "struct At { place: u64, count: u64 }\nimpl At {\npub fn lookup(self, s: &[u8], name: u32) -> Found\n    ensures { found result ≡ answer (looking_up name)",
+        &["toy_file::opened::lookup: it is given an opened file's place, but its ensures is not of it"],
+    ),
+    (
+        OPENED,
+        "pub fn lookup(s: &[u8], place: u64, count: u64, name: u32) -> Found\n    ensures { found result ≡ answer (of_opened place count (looking_up name))",
+        "struct At { place: u64, count: u64 }\nimpl At {\npub fn lookup(self, s: &[u8], name: u32) -> Found\n    ensures { found result ≡ answer (of_opened self.place self.count (looking_up name))",
+        &[],
     ),
     (
         FILE,
