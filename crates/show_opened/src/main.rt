@@ -1,4 +1,4 @@
-// Runs the calls of an opened file, none of which a C function reaches, on the ABIF file on standard input: with the place and count that opening
+// Runs the calls of an opened file, with those that no C function reaches, on the ABIF file on standard input: with the place and count that opening
 // gives, with others, and on a file that is cut short.
 #![tactic(auto)]
 
