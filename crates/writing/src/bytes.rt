@@ -9,8 +9,10 @@ pub fn copy(out: &mut [u8], p: usize, v: &[u8])
     if out.len() < v.len() || out.len() - v.len() < p {
         return;
     }
-    let end = p + v.len();
-    out[p..end].copy_from_slice(v);
+    // A loop, since the library's copy is a call of the C library: it takes longer here, and a program with none of its own would need one.
+    for (i, b) in v.iter().enumerate() {
+        out[p + i] = *b;
+    }
 }
 
 // Writes n zeros from place p on.
