@@ -44,6 +44,8 @@ fn copy_of_type(l: &[u8], code: u16, w: usize, p: usize, out: &mut [i64])
         3 => copy(l, 3, 2, p, out),
         4 => copy(l, 4, 2, p, out),
         5 => copy(l, 5, 4, p, out),
+        18 => copy(l, 18, 1, p, out),
+        19 => copy(l, 19, 1, p, out),
         _ => copy(l, code, w, p, out),
     }
 }

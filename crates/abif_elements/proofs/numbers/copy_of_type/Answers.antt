@@ -27,6 +27,16 @@ unfolding type_of
 copy-requires-in-5 c = let e : c.args.w ≡ 4 = c.requires.0 ∙ rw c.in-5.is in
     (refl, rw e at c.requires.1)
 
+pub copy-requires-in-18 : goal.copy-requires-in-18
+unfolding type_of
+copy-requires-in-18 c = let e : c.args.w ≡ 1 = c.requires.0 ∙ rw c.in-18.is in
+    (refl, rw e at c.requires.1)
+
+pub copy-requires-in-19 : goal.copy-requires-in-19
+unfolding type_of
+copy-requires-in-19 c = let e : c.args.w ≡ 1 = c.requires.0 ∙ rw c.in-19.is in
+    (refl, rw e at c.requires.1)
+
 pub returns-in-1 : goal.returns-in-1
 unfolding type_of
 returns-in-1 c =
@@ -56,3 +66,15 @@ unfolding type_of
 returns-in-5 c =
     let e : c.args.w ≡ 4 = c.requires.0 ∙ rw c.in-5.is in
     rw (c.in-5.is, e) c.copy-in-5.ensures
+
+pub returns-in-18 : goal.returns-in-18
+unfolding type_of
+returns-in-18 c =
+    let e : c.args.w ≡ 1 = c.requires.0 ∙ rw c.in-18.is in
+    rw (c.in-18.is, e) c.copy-in-18.ensures
+
+pub returns-in-19 : goal.returns-in-19
+unfolding type_of
+returns-in-19 c =
+    let e : c.args.w ≡ 1 = c.requires.0 ∙ rw c.in-19.is in
+    rw (c.in-19.is, e) c.copy-in-19.ensures
