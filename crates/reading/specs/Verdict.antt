@@ -1,6 +1,8 @@
 -- The verdict on a file: what judging's checks answer, with the tail.
-use Rattle.std.specs.Prelude.{ℕ, ◌-◌, List, length}
+use Rattle.std.specs.Prelude.{ℕ, ◌-◌, List, ◌++◌, length, codes, decimal}
+use Rattle.reading.specs.declared.verdict.Refused.{Refused}
 use Rattle.reading.specs.Check.{Check, Answer, ok, refused, map_answer, answer}
+use Rattle.reading.specs.Refusal.{number_text}
 
 -- The tail is document 02's term: the bytes after the extent. It is no matter of the checks, but the length less the extent in what they answer.
 abbrev pub with_tail : {A : Type 0} → (A → ℕ) → ℕ → Answer A → Answer (A × ℕ)
@@ -14,3 +16,7 @@ verdict_of judging extent s = with_tail extent (length s) (answer judging s)
 abbrev pub tail_of : {A : Type 0} → Answer (A × ℕ) → ℕ
 tail_of (ok v) = v.1
 tail_of (refused n e) = 0
+
+-- a refused file as a line tells it: "refused", the refusal's number, "at", and the entry or read
+abbrev pub refused_text : Refused → List ℕ
+refused_text w = codes "refused " ++ (number_text w.refusal ++ (codes " at " ++ decimal w.entry))

@@ -46,6 +46,11 @@ impl From<Refusal> for u64 {
 
 // As the programs' lines tell it, by its number.
 impl fmt::Display for Refusal {
+    ghost use Rattle.std.specs.Prelude.{Some};
+    ghost use Rattle.reading.specs.Refusal.{number_text};
+
+    ghost output = { λ r. Some (number_text r) };
+
     fn fmt<W: fmt::Write>(&self, f: &mut fmt::Formatter<W>) -> fmt::Result {
         write!(f, "{}", u64::from(*self))
     }

@@ -34,6 +34,11 @@ impl From<Reason> for Refused {
 
 // As the programs' lines tell it, by the refusal's number.
 impl fmt::Display for Refused {
+    ghost use Rattle.std.specs.Prelude.{Some};
+    ghost use Rattle.reading.specs.Verdict.{refused_text};
+
+    ghost output = { λ w. Some (refused_text w) };
+
     fn fmt<W: fmt::Write>(&self, f: &mut fmt::Formatter<W>) -> fmt::Result {
         write!(f, "refused {} at {}", self.refusal, self.entry)
     }
