@@ -1,5 +1,6 @@
 // What the lines are made of.
 ghost use Rattle.std.specs.Prelude.{◌≡◌};
+ghost use Rattle.std.specs.Str.{IsUtf8};
 ghost use Rattle.inspect.specs.Line.{printable_byte, name_text};
 
 use std::fmt;
@@ -16,7 +17,8 @@ fn printable(b: u8) -> u8
 
 // The four characters of a name, given as a big-endian number.
 fn name_text(name: u32) -> [u8; 4]
-    ensures { result ≡ name_text name }
+    ensures value { result ≡ name_text name }
+    ensures utf8 { IsUtf8 result }
 {
     let [a, b, c, d] = name.to_be_bytes();
     [printable(a), printable(b), printable(c), printable(d)]
@@ -27,10 +29,13 @@ fn name_text(name: u32) -> [u8; 4]
 pub(crate) struct Name(pub u32);
 
 impl fmt::Display for Name {
+    ghost use Rattle.std.specs.Prelude.{Some};
+
+    ghost output = { λ n. Some (name_text n.0) };
+
+    // One write, since the output is not buffered.
     fn fmt<W: fmt::Write>(&self, f: &mut fmt::Formatter<W>) -> fmt::Result {
-        for b in name_text(self.0) {
-            f.write_char(char::from(b))?;
-        }
-        Ok(())
+        let text = name_text(self.0);
+        f.write_str(str::from_utf8(&text).unwrap())
     }
 }
