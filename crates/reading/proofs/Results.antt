@@ -35,7 +35,7 @@ module _ {A : Type 0} (t : Check A) (s : List ℕ) where
     pub run_passed : (a : A) → passed a ≡ run t s → run (g a) s ≡ run (t >>= g) s
     run_passed a q = simp (run_bind, ← q)
 
-    pub run_tested : (w : code.Test) → failed (test_of w) 0 ≡ run t s → failed (test_of w) 0 ≡ run (t >>= g) s
+    pub run_tested : (w : code.Test Refusal) → failed (test_of w) 0 ≡ run t s → failed (test_of w) 0 ≡ run (t >>= g) s
     run_tested w q = simp (run_bind, ← q)
 
     pub answer_refused : (r : Refusal) (e : ℕ) → refused (number r) e ≡ answer t s → refused (number r) e ≡ answer (t >>= g) s

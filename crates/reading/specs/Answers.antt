@@ -12,7 +12,7 @@ use Rattle.reading.specs.Check.{Test, Outcome, passed, failed, short, Answer, ok
 use Rattle.reading.specs.Refusal.{number}
 
 -- a test, with its refusal's number
-abbrev pub test_of : code.Test → Test
+abbrev pub test_of : code.Test Refusal → Test
 test_of t = record { field = t.field; rule = t.rule; number = number t.refusal }
 
 -- the refusal of what is wrong: bytes that are missing are refusal 1
@@ -22,7 +22,7 @@ refusal_of (Short p m) = CutShort
 
 module _ {A : Type 0} where
   -- checks of which each is a test
-  abbrev pub outcome_of_tested : Result A code.Test → Outcome A
+  abbrev pub outcome_of_tested : Result A (code.Test Refusal) → Outcome A
   outcome_of_tested (Ok a) = passed a
   outcome_of_tested (Err t) = failed (test_of t) 0
 

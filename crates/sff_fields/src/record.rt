@@ -1,19 +1,19 @@
 // A read, or its refusal, as a record of numbers.
-ghost use Rattle.std.specs.Prelude.{◌≡◌};
-ghost use Rattle.reading.specs.Answers.{answer_of};
+ghost use Rattle.std.specs.Prelude.{◌≡◌, ℕ, MatchResult};
+ghost use Rattle.reading.specs.Check.{ok, refused};
 ghost use Rattle.reading.specs.Bulk.{record_of, placed};
 ghost use Rattle.sff_fields.specs.Parts.{record_width, read_numbers};
 
 use crate::parts::Read;
 use reading::bulk::put;
-use reading::refusal::Refusal;
 
 // How many numbers a read's record has.
 pub const RECORD_WIDTH: usize = 17;
 
 // The record: no refusal, and the read's numbers; or the refusal, and zeros.
-fn record_of(read: Result<Read, Refusal>) -> [u64; RECORD_WIDTH]
-    ensures { result ≡ record_of record_width read_numbers (answer_of read) }
+fn record_of<R: Into<u64>>(read: Result<Read, R>) -> [u64; RECORD_WIDTH]
+    ensures { MatchResult read (λ r. result ≡ record_of record_width read_numbers (ok r))
+        (λ e. (n : ℕ) × R.converts e n × (result ≡ record_of record_width read_numbers (refused n 0))) }
 {
     match read {
         Ok(r) => [
@@ -43,9 +43,10 @@ fn record_of(read: Result<Read, Refusal>) -> [u64; RECORD_WIDTH]
     }
 }
 
-// The record from place p of the list on, where there is room for it.
-pub fn put_record(out: &mut [u64], p: usize, read: Result<Read, Refusal>)
-    ensures { out.new ≡ placed out.old p (record_of record_width read_numbers (answer_of read)) }
+// The record from place p of the list on, where there is room for it; of a refused read its first number is what the refusal converts to.
+pub fn put_record<R: Into<u64>>(out: &mut [u64], p: usize, read: Result<Read, R>)
+    ensures { MatchResult read (λ r. out.new ≡ placed out.old p (record_of record_width read_numbers (ok r)))
+        (λ e. (n : ℕ) × R.converts e n × (out.new ≡ placed out.old p (record_of record_width read_numbers (refused n 0)))) }
 {
     put(out, p, record_of(read));
 }

@@ -6,7 +6,11 @@ use native.Mathlib.Omega.{arith}
 use lib.ListN.{length}
 use lib.Seq.{sets, length-sets}
 use borrow.Author.Tests.{le-leb, lt-leb}
-use Rattle.reading.specs.Check.{Answer}
+use Rattle.std.specs.Prelude.{Result, Ok, Err, MatchResult}
+use Rattle.reading.specs.declared.refusal.Refusal.{Refusal}
+use Rattle.reading.specs.Refusal.{number}
+use Rattle.reading.specs.Answers.{answer_of}
+use Rattle.reading.specs.Check.{Answer, ok, refused}
 use Rattle.reading.specs.Bulk.{record_of, placed}
 use Rattle.reading.proofs.bulk.Laws as Bulk
 use Rattle.sff_fields.specs.declared.parts.Read.{Read}
@@ -34,3 +38,9 @@ two_written o p q a b x y e f h k =
     let z = one_written o p a x e h in
     let l : length x ≡ length o = ap length z ∙ length-sets o p (record_of record_width read_numbers a) in
     one_written x q b y f (omega arith) ∙ ap (λ (w : List ℕ). sets w q (record_of record_width read_numbers b)) z
+
+-- the record of a read that is refused by a `Refusal`: its number is what it converts to
+pub record_told : (o : List ℕ) (p : ℕ) (read : Result Read Refusal) (x : List ℕ) → MatchResult read (λ r. x ≡ placed o p (record_of record_width read_numbers (ok r))) (λ e. (n : ℕ) × (n ≡ number e) × (x ≡ placed o p (record_of record_width read_numbers (refused n 0))))
+    → x ≡ placed o p (record_of record_width read_numbers (answer_of read))
+record_told o p (Ok r) x h = h
+record_told o p (Err e) x h = h.2 ∙ ap (λ (n : ℕ). placed o p (record_of record_width read_numbers (refused n 0))) h.1

@@ -7,7 +7,7 @@ use Rattle.reading.proofs.Fill.{lanes_next, lanes_end}
 use Rattle.reading.proofs.Loop.{left_next, left_end}
 use Rattle.reading.specs.Bulk.{record_of, records}
 use Rattle.reading.specs.Answers.{answer_of}
-use Rattle.sff_fields.proofs.record.Laws.{record_wide, two_written}
+use Rattle.sff_fields.proofs.record.Laws.{record_wide, two_written, record_told}
 use Rattle.sff.specs.Reads.{reads_at}
 use Rattle.sff_fields.specs.Parts.{read_numbers}
 use Rattle.sff.proofs.reads.Laws.{along, along_is, farther_next, farther_end, farther_is, passes_first, passes_next, numbers_next, numbers_none}
@@ -45,7 +45,7 @@ loop-i-preserved c = let l = c.loop-i in
     let other = answer_of c.read_from-in-loop-i.result in
     let k : 17 * l.i + 17 ≡ 17 * (l.i + 1) = omega arith in
     let f = lanes_next _ _ (17 * g.n) (17 * l.i) g.out.now l.out _ l.invariant.0 17 (omega arith) (record_of 17 read_numbers one) (record_of 17 read_numbers other) (record_wide one) (record_wide other) _ _ (numbers_next g.file.header g.file.bytes.now l.here _ o one r) (numbers_next g.file.header g.file.bytes.now l.there _ q other t) in (
-      rw (two_written l.out (17 * l.i) (17 * g.n + 17 * l.i) one other _ _ c.put_record.ensures c.put_record-in-loop-i.ensures (omega (arith, l.invariant.0.room)) (omega (arith, l.invariant.0.room)), ← k) f,
+      rw (two_written l.out (17 * l.i) (17 * g.n + 17 * l.i) one other _ _ (record_told _ _ _ _ c.put_record.ensures) (record_told _ _ _ _ c.put_record-in-loop-i.ensures) (omega (arith, l.invariant.0.room)) (omega (arith, l.invariant.0.room)), ← k) f,
       left_next _ g.n l.i _ l.invariant.1 _ (farther_next g.file.header g.file.bytes.now l.there _ q),
       next_passed_within g.file.header 0 l.here g.file.bytes.now _ o,
       next_passed_within g.file.header 0 l.there g.file.bytes.now _ q,

@@ -6,7 +6,7 @@ use lib.ListN.{drop}
 use Rattle.reading.proofs.Fill.{fill_record, fill_end}
 use Rattle.reading.specs.Bulk.{record_of, records}
 use Rattle.reading.specs.Answers.{answer_of}
-use Rattle.sff_fields.proofs.record.Laws.{record_wide, one_written}
+use Rattle.sff_fields.proofs.record.Laws.{record_wide, one_written, record_told}
 use Rattle.sff.specs.Reads.{reads_at}
 use Rattle.sff_fields.specs.Parts.{read_numbers}
 use Rattle.sff.proofs.reads.Laws.{along_is, passes_first, passes_next, numbers_next, numbers_none}
@@ -30,7 +30,7 @@ loop-i-preserved c = let l = c.loop-i in
     let r = c.read_from.ensures in
     let f = fill_record _ (17 * g.n) (17 * l.i) g.out.now l.out _ l.invariant.0 (record_of 17 read_numbers (answer_of c.read_from.result)) 17 (record_wide (answer_of c.read_from.result)) (omega arith) _ (numbers_next g.file.header g.file.bytes.now l.here _ o _ r) in
     let k : 17 * l.i + 17 ≡ 17 * (l.i + 1) = omega arith in
-    (rw (one_written l.out (17 * l.i) (answer_of c.read_from.result) _ c.put_record.ensures (omega (arith, l.invariant.0.room)), ← k) f, next_passed_within g.file.header 0 l.here g.file.bytes.now _ o, passes_next g.file.header g.file.bytes.now g.n l.i l.here (omega arith) l.invariant.2 _ o)
+    (rw (one_written l.out (17 * l.i) (answer_of c.read_from.result) _ (record_told _ _ _ _ c.put_record.ensures) (omega (arith, l.invariant.0.room)), ← k) f, next_passed_within g.file.header 0 l.here g.file.bytes.now _ o, passes_next g.file.header g.file.bytes.now g.n l.i l.here (omega arith) l.invariant.2 _ o)
 
 pub returns : goal.returns
 returns c = λ w h.
