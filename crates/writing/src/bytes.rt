@@ -9,7 +9,7 @@ pub fn copy(out: &mut [u8], p: usize, v: &[u8])
     if out.len() < v.len() || out.len() - v.len() < p {
         return;
     }
-    // A loop, since the library's copy is a call of the C library: it takes longer here, and a program with none of its own would need one.
+    // A loop, since the library's copy calls `memmove`, which C programs that link no C library would have to bring.
     for (i, b) in v.iter().enumerate() {
         out[p + i] = *b;
     }
