@@ -54,6 +54,7 @@ impl<'a> Entries<'a> {
     }
 
     // The first of n entries with this tag, from entry `from` on.
+    #[tactic(auto, using(reading::proofs::Loop::left_end), unfolding(reading::specs::Entries::first_with))]
     pub(crate) fn first_tag(self, name: u32, number: u32, from: usize, n: usize) -> Option<usize>
         requires { (n ≤ self.count) × (from ≤ n) }
         ensures first { unwrap_or result n ≡ first_with (has_tag self.entry.bytes.now self.entry.place name number) (n - from) from }

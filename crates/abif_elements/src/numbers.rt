@@ -51,6 +51,7 @@ fn copy_of_type(l: &[u8], code: u16, w: usize, p: usize, out: &mut [i64])
 }
 
 // That the item's data have passed their checks is asked as in `element`.
+#[tactic(auto, using(reading::proofs::Tests::tests, crate::proofs::numbers::Laws::of_little))]
 fn numbers_of(s: &[u8], q: ItemData, first: u64, out: &mut [i64]) -> Result<u64, Refusal>
     requires { Checked s.now q }
     ensures result_value { answer_of result ≡ map_answer length (answer (numbers_of_item q first (length out.old)) s.now) }

@@ -65,9 +65,11 @@ impl<'a> AbifFile<'a> {
     }
 
     // The item with this tag.
+    #[tactic(auto, using(crate::proofs::opened::Laws::later_refused, crate::proofs::opened::Laws::later_same))]
     pub fn lookup(self, tag: Tag) -> Result<ItemData, Refusal>
         ensures { answer_of result ≡ answer (of_opened self.entry.place self.entry.count (looking_up tag.name (bits 4 tag.number))) self.entry.bytes.now }
     {
+        // first, so that another place or count is told even where there is no such tag
         self.same_directory()?;
         lookup::lookup(self.bytes, tag)
     }

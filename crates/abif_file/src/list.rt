@@ -20,6 +20,7 @@ fn fill(h: &[u8], place: u32, out: &mut [RawEntry])
 }
 
 // All entries, in file order, at the front of the lent list, or a refusal that leaves it as it was.
+#[tactic(auto, using(crate::proofs::list::Laws::list_over))]
 pub fn list(s: &[u8], out: &mut [RawEntry]) -> Result<u64, Refusal>
     ensures { (answer_of result ≡ map_answer length (answer (listing (length out.old)) s.now))
         × (out.new ≡ filled (answer (listing (length out.old)) s.now) out.old) }

@@ -4,7 +4,7 @@ use lib.ListN.{length, take, length-take}
 use Rattle.std.proofs.lemmas.Result.{err_from_is_err_and}
 use Rattle.abif.proofs.directory.Laws.{opened_at}
 use Rattle.abif_file.specs.List.{raw_entries}
-use Rattle.abif_file.proofs.list.Laws.{list_unopened, list_over, list_full}
+use Rattle.abif_file.proofs.list.Laws.{list_unopened, list_full}
 use Rattle.abif_file.proofs.list.list.Goals as goal
 
 pub returns-in_err-d : goal.returns-in_err-d
@@ -12,12 +12,6 @@ returns-in_err-d c =
     let p = err_from_is_err_and c.from_residual.result c.from_residual.ensures.1 in
     let e = list_unopened (length c.args.out.now) c.args.s.now _ (sym c.in_err-d.ensures) in
     (rw (p.1, p.2, e), rw e)
-
-pub returns-then-out-n : goal.returns-then-out-n
-returns-then-out-n c =
-    let g = c.args in
-    let e = list_over (length g.out.now) g.s.now _ _ (sym c.in_ok-d.ensures) c.if-out-n.true in
-    (rw e, rw e)
 
 pub slice_bounds-fill-end : goal.slice_bounds-fill-end
 slice_bounds-fill-end c =

@@ -17,7 +17,7 @@ pub loop-i-preserved : goal.loop-i-preserved
 loop-i-preserved c =
     let l = c.loop-i in
     let x = c.to_be_bytes.ensures in
-    words_next c.args.v.now _ _ _ c.args.p _ l.i _ l.invariant refl refl (omega arith) (part_put _ _ _ _ _ (c.copy_from_slice.ensures.after ∙ x ∙ bytes_high_first_digits 2 _) (simp length_digits (omega arith)) (simp length_digits (omega arith)))
+    words_next c.args.v.now _ _ _ c.args.p _ l.i _ l.invariant (omega arith) refl (omega arith) (part_put _ _ _ _ _ (c.copy_from_slice.ensures.after ∙ x ∙ bytes_high_first_digits 2 _) (simp length_digits (omega arith)) (simp length_digits (omega arith)))
 
 pub returns : goal.returns
 returns c =

@@ -1,7 +1,5 @@
-use mathlib.Core.Path.{◌≡◌, ◌∙◌}
 use native.Mathlib.Omega.{arith}
-use Rattle.reading.proofs.Loop.{left_next, left_stop, left_end}
-use Rattle.reading.specs.Entries.{first_with}
+use Rattle.reading.proofs.Loop.{left_next, left_stop}
 use Rattle.reading.proofs.Entries.{first_here, first_on}
 use Rattle.abif.specs.Entry.{has_tag}
 use Rattle.abif.proofs.entries.Entries.first_tag.Goals as goal
@@ -17,9 +15,3 @@ loop-i-preserved c =
     let g = c.args in
     let step = first_on (has_tag g.self.bytes.now g.self.place g.name g.number) c.loop-i.i _ c.has_tag.ensures in
     left_next _ _ _ _ c.loop-i.invariant _ (λ m. step m c.if-has_tag.false)
-
-pub returns-clause-first : goal.returns-clause-first
-unfolding first_with
-returns-clause-first c =
-    let e : c.args.n ≡ c.loop-i.i = omega arith in
-    e ∙ left_end _ _ _ _ c.loop-i.invariant (omega arith) (omega arith)
