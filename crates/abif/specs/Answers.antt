@@ -8,7 +8,7 @@ use Rattle.reading.specs.Answers.{outcome_of_failure}
 use Rattle.abif.specs.declared.directory.Directory.{Directory}
 
 -- the header and directory checks: the directory's place and count
-abbrev pub outcome_of_opened : Result Directory Failure → Outcome (ℕ × ℕ)
+abbrev pub outcome_of_opened : Result Directory (Failure Refusal) → Outcome (ℕ × ℕ)
 outcome_of_opened (Ok d) = passed (d.place, d.count)
 outcome_of_opened (Err f) = outcome_of_failure f 0
 

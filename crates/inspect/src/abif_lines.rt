@@ -1,5 +1,5 @@
 // The lines for an ABIF file: its verdict and, if it is whole, its directory's entries.
-use crate::line::Name;
+use crate::line::{Name, RefusedFile, Signed, put_whole};
 use abif::directory::open;
 use abif::judge::judge;
 use abif_file::entry::{RawEntry, entry};
@@ -7,13 +7,15 @@ use std::io;
 use std::io::Write;
 
 fn put_entry<W: Write>(to: &mut W, d: RawEntry) -> io::Result<()> {
-    write!(to, "{} {} type {}", Name(d.name), d.number, d.element_type)?;
-    write!(to, " count {} size {}", d.element_count, d.data_size)?;
+    write!(to, "{} {}", Name(d.name), Signed(d.number))?;
+    write!(to, " type {}", Signed(d.element_type.into()))?;
+    write!(to, " count {}", Signed(d.element_count))?;
+    write!(to, " size {}", Signed(d.data_size))?;
     // Data of 4 bytes or fewer stand in the entry itself.
     if d.data_size <= 4 {
         writeln!(to, " inline")
     } else {
-        writeln!(to, " at {}", d.data_offset)
+        writeln!(to, " at {}", Signed(d.data_offset))
     }
 }
 
@@ -32,9 +34,9 @@ fn put_entries<W: Write>(to: &mut W, s: &[u8]) -> io::Result<()> {
 
 pub(crate) fn put_file<W: Write>(to: &mut W, s: &[u8]) -> io::Result<()> {
     match judge(s) {
-        Err(refused) => writeln!(to, "ABIF {refused}"),
+        Err(refused) => writeln!(to, "{}", RefusedFile("ABIF", refused)),
         Ok(whole) => {
-            write!(to, "ABIF whole {} of {}", whole.extent, s.len())?;
+            put_whole(to, "ABIF", whole.extent, s.len())?;
             writeln!(to, " tail {}", whole.tail)?;
             put_entries(to, s)
         }

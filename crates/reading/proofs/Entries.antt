@@ -8,6 +8,7 @@ use lib.Dec.{leb}
 use borrow.Author.Tests.{lt-ltb, le-ltb, eq-eqb, ne_eqb, ltb-true, leb-true, leb-false}
 use Rattle.reading.specs.declared.check.Failure.{Failure}
 use Rattle.reading.specs.declared.check.Failure.TheVariants.{Failed, Short}
+use Rattle.reading.specs.declared.refusal.Refusal.{Refusal}
 use Rattle.reading.specs.Answers.{test_of, outcome_of_failure}
 use Rattle.reading.specs.Choice.{pick}
 use Rattle.reading.specs.Check.{Check, Test, passed, failed, short, failing, ok, run, answer, holds}
@@ -122,7 +123,7 @@ module _ (t : ℕ → Check ℕ) (s : List ℕ) where
     unfolding in_order
     order_short a b e q m = simp (run_bind, run_at, q)
 
-    pub order_wrong : (f : Failure) → outcome_of_failure f 0 ≡ run (t i) s → (m : ℕ) → outcome_of_failure f (i + 1) ≡ run (in_order t (suc m) i x) s
+    pub order_wrong : (f : Failure Refusal) → outcome_of_failure f 0 ≡ run (t i) s → (m : ℕ) → outcome_of_failure f (i + 1) ≡ run (in_order t (suc m) i x) s
     order_wrong (Failed w) q m = sym (order_failed (test_of w) 0 (sym q) m)
     order_wrong (Short a b) q m = sym (order_short a b 0 (sym q) m)
 

@@ -1,6 +1,7 @@
 -- The verdict on a file: what judging's checks answer, with the tail.
 use Rattle.std.specs.Prelude.{ℕ, ◌-◌, List, ◌++◌, length, codes, decimal}
 use Rattle.reading.specs.declared.verdict.Refused.{Refused}
+use Rattle.reading.specs.declared.refusal.Refusal.{Refusal}
 use Rattle.reading.specs.Check.{Check, Answer, ok, refused, map_answer, answer}
 use Rattle.reading.specs.Refusal.{number_text}
 
@@ -18,5 +19,5 @@ tail_of (ok v) = v.1
 tail_of (refused n e) = 0
 
 -- a refused file as a line tells it: "refused", the refusal's number, "at", and the entry or read
-abbrev pub refused_text : Refused → List ℕ
+abbrev pub refused_text : Refused Refusal → List ℕ
 refused_text w = codes "refused " ++ (number_text w.refusal ++ (codes " at " ++ decimal w.entry))

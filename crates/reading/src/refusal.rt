@@ -44,6 +44,16 @@ impl From<Refusal> for u64 {
     }
 }
 
+impl From<Refusal> for u8 {
+    ghost use Rattle.reading.specs.Refusal.{number};
+
+    ghost from_gives = { λ r n. n ≡ number r };
+
+    fn from(r: Refusal) -> u8 {
+        r as u8
+    }
+}
+
 // As the programs' lines tell it, by its number.
 impl fmt::Display for Refusal {
     ghost use Rattle.std.specs.Prelude.{Some};

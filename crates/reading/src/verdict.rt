@@ -14,19 +14,19 @@ pub struct Whole {
 
 // The file is refused, at this entry or read, from one; 0 for the header.
 #[derive(Clone, Copy)]
-pub struct Refused {
-    pub refusal: Refusal,
+pub struct Refused<R = Refusal> {
+    pub refusal: R,
     pub entry: usize,
 }
 
-impl From<Reason> for Refused {
-    ghost use Rattle.reading.specs.Answers.{refusal_of};
+impl<R: From<Refusal>> From<Reason<R>> for Refused<R> {
+    ghost use Rattle.reading.specs.Answers.{TellsRefusal};
 
-    ghost from_gives = { λ w r. r ≡ record { refusal = refusal_of w.failure; entry = w.entry } };
+    ghost from_gives = { λ w r. TellsRefusal R.from_gives w.failure r.refusal × (r.entry ≡ w.entry) };
 
-    fn from(w: Reason) -> Refused {
+    fn from(w: Reason<R>) -> Refused<R> {
         Refused {
-            refusal: Refusal::from(w.failure),
+            refusal: w.failure.refusal(),
             entry: w.entry,
         }
     }

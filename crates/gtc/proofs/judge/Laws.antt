@@ -15,6 +15,7 @@ use Rattle.reading.specs.Entries.{in_order}
 use Rattle.reading.specs.declared.check.Failure.{Failure}
 use Rattle.reading.specs.declared.check.Failure.TheVariants.{Failed, Short}
 use Rattle.reading.specs.declared.check.Requirement.TheVariants.{NewId}
+use Rattle.reading.specs.declared.refusal.Refusal.{Refusal}
 use Rattle.reading.specs.Answers.{outcome_of_failure}
 use Rattle.reading.proofs.Steps.{run_bind, run_must, run_done}
 use Rattle.reading.proofs.Passed.{bind_refused}
@@ -58,7 +59,7 @@ module _ (s h : List ℕ) (n i : ℕ) (v : Stored) (d : Entry) (t : Bool) (qt : 
     unfolding judge_as holds
     listed_short p m q = simp (run_bind, run_must, ← qt, g, ← q)
 
-    pub listed_wrong : (f : Failure) → outcome_of_failure f 0 ≡ run (item_check v h n d) s → outcome_of_failure f 0 ≡ run (judge_as (Some v) h n i d) s
+    pub listed_wrong : (f : Failure Refusal) → outcome_of_failure f 0 ≡ run (item_check v h n d) s → outcome_of_failure f 0 ≡ run (judge_as (Some v) h n i d) s
     listed_wrong (Failed w) q = listed_failed _ q
     listed_wrong (Short p m) q = listed_short p m q
 

@@ -7,6 +7,7 @@ use borrow.Author.Tests.{eq-eqb, ne_eqb}
 use Rattle.reading.specs.declared.check.Failure.{Failure}
 use Rattle.reading.specs.declared.check.Rule.TheVariants.{Other}
 use Rattle.reading.specs.declared.check.Requirement.TheVariants.{IndexMet}
+use Rattle.reading.specs.declared.refusal.Refusal.{Refusal}
 use Rattle.reading.specs.Answers.{outcome_of_failure}
 use Rattle.reading.specs.Check.{Test, Need, passed, failed, short, run, holds}
 use Rattle.reading.proofs.Steps.{run_bind, run_must, run_done}
@@ -57,7 +58,7 @@ module _ (d : Header) (s : List ℕ) where
   unfolding judging_reads walk_past
   reads_short m e h = stops_short (walk d d.reads 0 (first_boundary d)) (λ w. w.behind) _ s m e h
 
-  pub reads_wrong : (f : Failure) (e : ℕ) → outcome_of_failure f e ≡ run (walk_past d d.reads 0 (first_boundary d)) s → outcome_of_failure f e ≡ run (judging_reads d) s
+  pub reads_wrong : (f : Failure Refusal) (e : ℕ) → outcome_of_failure f e ≡ run (walk_past d d.reads 0 (first_boundary d)) s → outcome_of_failure f e ≡ run (judging_reads d) s
   unfolding judging_reads walk_past
   reads_wrong f e h = stops_wrong (walk d d.reads 0 (first_boundary d)) (λ w. w.behind) _ s f e h
 

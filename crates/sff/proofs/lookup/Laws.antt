@@ -9,6 +9,7 @@ use lib.Dec.{leb, eqb}
 use borrow.Author.Tests.{leb-true}
 use Rattle.reading.specs.declared.check.Failure.{Failure}
 use Rattle.reading.specs.declared.check.Failure.TheVariants.{Failed, Short}
+use Rattle.reading.specs.declared.refusal.Refusal.{Refusal}
 use Rattle.reading.specs.declared.part.Span.{Span}
 use Rattle.reading.specs.Choice.{pick}
 use Rattle.reading.specs.Answers.{outcome_of_failure, refusal_of}
@@ -141,7 +142,7 @@ module _ (f p : ℕ) (s : List ℕ) where
   unfolding framing read_from
   from_short m h = sym (answer_plain _ s ∙ ap answer_of_outcome (stops_short (present_read f p) (λ r. read_end f r.fields) (λ r. read_contents f r.fields r.up_to) s m 0 h))
 
-  pub from_wrong : (w : Failure) → outcome_of_failure w 0 ≡ run (framing f p) s → refused (number (refusal_of w)) 0 ≡ answer (read_from f p) s
+  pub from_wrong : (w : Failure Refusal) → outcome_of_failure w 0 ≡ run (framing f p) s → refused (number (refusal_of w)) 0 ≡ answer (read_from f p) s
   from_wrong (Failed t) h = from_failed _ (sym h)
   from_wrong (Short a m) h = from_short _ (sym h)
 
@@ -174,7 +175,7 @@ module _ (f p : ℕ) (s : List ℕ) where
 
 -- read k, from what stands before it
 module _ (d : Header) (k : ℕ) (s : List ℕ) (b : Boundary) (h : answer (before_read d k) s ≡ ok b) where
-  pub in_cut : (f : Failure) → outcome_of_failure f 0 ≡ run (skip_index d b) s → refused (number (refusal_of f)) 0 ≡ answer (read_in d k) s
+  pub in_cut : (f : Failure Refusal) → outcome_of_failure f 0 ≡ run (skip_index d b) s → refused (number (refusal_of f)) 0 ≡ answer (read_in d k) s
   unfolding read_in
   in_cut f q = simp (answer_bind, h, ← answer_wrong _ s f 0 q)
 

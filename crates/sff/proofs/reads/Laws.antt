@@ -9,6 +9,7 @@ use lib.Seq.{take-length, drop-length, drop-drop, take_at, drop_at}
 use borrow.Author.Tests.{le-leb, lt-leb}
 use Rattle.reading.specs.declared.check.Failure.{Failure}
 use Rattle.reading.specs.declared.check.Failure.TheVariants.{Failed, Short}
+use Rattle.reading.specs.declared.refusal.Refusal.{Refusal}
 use Rattle.reading.specs.Answers.{outcome_of_failure, refusal_of}
 use Rattle.reading.specs.Refusal.{number}
 use Rattle.reading.specs.Check.{Test, Need, Outcome, passed, failed, short, Answer, ok, refused, answer_of_outcome, run, answer, holds, done}
@@ -260,7 +261,7 @@ module _ (d : Header) (n i : ℕ) (s : List ℕ) where
   pub first_short : (m : Need) (e : ℕ) → run (walk_past d i 0 (first_boundary d)) s ≡ short m e → refused 1 0 ≡ answer (reads_from d n i) s
   first_short m e h = walk_refused 1 e (answer_plain _ s ∙ ap answer_of_outcome (past_plus d s i n 0 (first_boundary d) ∙ ap (λ (o : Outcome Boundary). then o (λ c. run (walk_past d n (0 + i) c) s)) h))
 
-  pub first_wrong : (f : Failure) (e : ℕ) → outcome_of_failure f e ≡ run (walk_past d i 0 (first_boundary d)) s → refused (number (refusal_of f)) 0 ≡ answer (reads_from d n i) s
+  pub first_wrong : (f : Failure Refusal) (e : ℕ) → outcome_of_failure f e ≡ run (walk_past d i 0 (first_boundary d)) s → refused (number (refusal_of f)) 0 ≡ answer (reads_from d n i) s
   first_wrong (Failed t) e h = first_failed _ e (sym h)
   first_wrong (Short p m) e h = first_short _ e (sym h)
 
@@ -274,7 +275,7 @@ module _ (d : Header) (n i : ℕ) (s : List ℕ) where
     pub then_short : (m : Need) (e : ℕ) → run (walk_past d n i b) s ≡ short m e → refused 1 0 ≡ answer (reads_from d n i) s
     then_short m e k = walk_refused 1 e (answer_plain _ s ∙ ap answer_of_outcome (both ∙ k))
 
-    pub then_wrong : (f : Failure) (e : ℕ) → outcome_of_failure f e ≡ run (walk_past d n i b) s → refused (number (refusal_of f)) 0 ≡ answer (reads_from d n i) s
+    pub then_wrong : (f : Failure Refusal) (e : ℕ) → outcome_of_failure f e ≡ run (walk_past d n i b) s → refused (number (refusal_of f)) 0 ≡ answer (reads_from d n i) s
     then_wrong (Failed t) e k = then_failed _ e (sym k)
     then_wrong (Short p m) e k = then_short _ e (sym k)
 

@@ -8,6 +8,7 @@ use lib.Dec.{eqb}
 use borrow.Author.Tests.{eq-eqb, ne_eqb, le-leb, lt-leb}
 use Rattle.reading.specs.declared.check.Failure.{Failure}
 use Rattle.reading.specs.declared.check.Failure.TheVariants.{Failed, Short}
+use Rattle.reading.specs.declared.refusal.Refusal.{Refusal}
 use Rattle.reading.specs.Answers.{outcome_of_failure, refusal_of}
 use Rattle.reading.specs.Choice.{pick}
 use Rattle.reading.specs.Check.{Test, Need, Outcome, passed, failed, short, ok, refused, answer_of_outcome, run, answer, holds, done, need, ◌>>◌}
@@ -67,7 +68,7 @@ module _ (d : Header) (b : Boundary) (s : List ℕ) where
       unfolding next_read
       next_short m q = simp (run_bind, ← h, run_at, q)
 
-      pub next_wrong : (f : Failure) → outcome_of_failure f 0 ≡ run (framing d.flows c.position) s → outcome_of_failure f (i + 1) ≡ run (next_read d i b) s
+      pub next_wrong : (f : Failure Refusal) → outcome_of_failure f 0 ≡ run (framing d.flows c.position) s → outcome_of_failure f (i + 1) ≡ run (next_read d i b) s
       next_wrong (Failed t) q = next_failed _ (sym q)
       next_wrong (Short p m) q = next_short _ (sym q)
 
@@ -85,7 +86,7 @@ module _ (d : Header) (b : Boundary) (s : List ℕ) where
 
 -- the walk, from what the next read gives
 module _ (d : Header) (i : ℕ) (b : Boundary) (s : List ℕ) where
-  pub past_wrong : (f : Failure) (e : ℕ) → outcome_of_failure f e ≡ run (next_read d i b) s → (m : ℕ) → run (walk_past d (suc m) i b) s ≡ outcome_of_failure f e
+  pub past_wrong : (f : Failure Refusal) (e : ℕ) → outcome_of_failure f e ≡ run (next_read d i b) s → (m : ℕ) → run (walk_past d (suc m) i b) s ≡ outcome_of_failure f e
   unfolding walk_past walk
   past_wrong (Failed t) e h m = simp (run_bind, ← h)
   past_wrong (Short p n) e h m = simp (run_bind, ← h)
@@ -170,7 +171,7 @@ module _ (d : Header) (k : ℕ) (s : List ℕ) where
       pub before_outcome : (o : Outcome Boundary) → o ≡ run (walk_past d (k - 1) 0 (first_boundary d)) s → answer_at_entry 0 (answer_of_outcome o) ≡ answer (before_read d k) s
       before_outcome o q = ap (λ (x : Outcome Boundary). answer_at_entry 0 (answer_of_outcome x)) q ∙ ap (answer_at_entry 0) (sym (answer_plain _ s)) ∙ before_walk
 
-      pub before_wrong : (f : Failure) (e : ℕ) → outcome_of_failure f e ≡ run (walk_past d (k - 1) 0 (first_boundary d)) s → refused (number (refusal_of f)) 0 ≡ answer (before_read d k) s
+      pub before_wrong : (f : Failure Refusal) (e : ℕ) → outcome_of_failure f e ≡ run (walk_past d (k - 1) 0 (first_boundary d)) s → refused (number (refusal_of f)) 0 ≡ answer (before_read d k) s
       before_wrong (Failed t) e q = before_outcome _ q
       before_wrong (Short p m) e q = before_outcome _ q
 

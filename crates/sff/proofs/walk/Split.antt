@@ -8,6 +8,7 @@ use lib.ListN.{get_or}
 use lib.Seq.{get_or-append_seam}
 use Rattle.reading.specs.declared.check.Failure.{Failure}
 use Rattle.reading.specs.declared.check.Failure.TheVariants.{Failed, Short}
+use Rattle.reading.specs.declared.refusal.Refusal.{Refusal}
 use Rattle.reading.specs.Answers.{outcome_of_failure}
 use Rattle.reading.specs.Check.{Outcome, passed, failed, short, ok, run, answer}
 use Rattle.reading.proofs.Steps.{then, answer_bind, answer_done}
@@ -95,7 +96,7 @@ module _ (d : Header) (s : List ℕ) where
       ap (λ (k : ℕ). run (walk_past d k i b) s) q ∙ past_plus m (n - m) i b ∙ ap (λ (x : Outcome Boundary). then x (λ c. run (walk_past d (n - m) (i + m) c) s)) h
 
   -- what is wrong with the first m reads is wrong with all
-  pub parts_wrong : (m n i : ℕ) (b : Boundary) → m ≤ n → (f : Failure) (e : ℕ) → outcome_of_failure f e ≡ run (walk_past d m i b) s → outcome_of_failure f e ≡ run (walk_past d n i b) s
+  pub parts_wrong : (m n i : ℕ) (b : Boundary) → m ≤ n → (f : Failure Refusal) (e : ℕ) → outcome_of_failure f e ≡ run (walk_past d m i b) s → outcome_of_failure f e ≡ run (walk_past d n i b) s
   parts_wrong m n i b l (Failed t) e h = sym (past_parts m n i b l _ (sym h))
   parts_wrong m n i b l (Short p q) e h = sym (past_parts m n i b l _ (sym h))
 

@@ -7,6 +7,7 @@ use Rattle.std.proofs.lemmas.Result.{err_from_is_err_and}
 use Rattle.reading.specs.Check.{Answer}
 use Rattle.reading.specs.Verdict.{with_tail}
 use Rattle.reading.proofs.Results.{answer_wrong_behind, answer_passed, answer_ok, told_at}
+use Rattle.reading.proofs.Tail.{refused_plain}
 use Rattle.gtc.specs.Table.{Table, table}
 use Rattle.gtc.specs.Judge.{Extent, judge_table, judging, extent_of}
 use Rattle.gtc.proofs.judge.judge.Goals as goal
@@ -21,7 +22,7 @@ returns-in_err-t c =
     let p = err_from_is_err_and c.from_residual.result c.from_residual.ensures.1 in
     let q = (told_at _ 0 (λ f w k. search rules) c.read.result _ c.map_err.ensures.cases).1 _ c.in_err-t.was in
     let h = rw q.1 at c.read.ensures in
-    rw (p.1, p.2, q.2) (ap (tailed s) (answer_wrong_behind table s (λ (t : Table). judge_table t.up_to t.count) _ 0 h))
+    rw (p.1, refused_plain _ _ p.2, q.2) (ap (tailed s) (answer_wrong_behind table s (λ (t : Table). judge_table t.up_to t.count) _ 0 h))
 
 pub returns : goal.returns
 unfolding judging

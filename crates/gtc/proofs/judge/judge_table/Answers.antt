@@ -1,7 +1,7 @@
 use mathlib.Core.Path.{ap}
 use Rattle.std.proofs.lemmas.Result.{err_from_is_err_and}
 use Rattle.reading.proofs.Results.{run_wrong}
-use Rattle.reading.proofs.Tail.{verdict_refused, verdict_whole}
+use Rattle.reading.proofs.Tail.{refused_plain, verdict_refused, verdict_whole}
 use Rattle.reading.specs.declared.verdict.Whole.{Whole}
 use Rattle.gtc.proofs.judge.Laws.{table_whole}
 use Rattle.gtc.specs.Judge.{judge_table, extent_of}
@@ -11,7 +11,7 @@ pub returns-in_err-extent : goal.returns-in_err-extent
 unfolding judge_table
 returns-in_err-extent c =
     let p = err_from_is_err_and c.from_residual.result c.from_residual.ensures.1 in
-    rw (p.1, p.2) (verdict_refused _ extent_of _ _ _ (run_wrong _ _ _ _ _ c.in_err-extent.ensures))
+    rw (p.1, refused_plain _ _ p.2) (verdict_refused _ extent_of _ _ _ (run_wrong _ _ _ _ _ c.in_err-extent.ensures))
 
 pub returns : goal.returns
 unfolding judge_table
