@@ -1,8 +1,9 @@
 /* The header fits the archive: sizes of the structs, and each call on the files W2 and W7 to W11 of document 01, of
    which W2, W7 and W8 are also written; listing on W2 with a second entry, and the bulk call on W8 with a second
-   read. */
+   read; the check of tags, with little stack. */
 #include "jintarueng.h"
 
+#include <pthread.h>
 #include <stddef.h>
 #include <stdio.h>
 #include <string.h>
@@ -763,6 +764,42 @@ static void check_tails(void) {
     }
 }
 
+/* The check of W2, whose one tag is in no profile. */
+typedef struct tags {
+    const uint8_t *file;
+    size_t len;
+    jt_listed findings;
+    int64_t found[JT_FINDING_NUMBERS * 999];
+} tags;
+
+static void *check_tags(void *given) {
+    tags *t = given;
+    t->findings = jt_abif_check_tags(t->file, t->len, 1, t->found, sizeof t->found / sizeof *t->found);
+    return NULL;
+}
+
+static int is_found(const tags *t, int64_t name, int64_t number, int64_t what) {
+    for (size_t i = 0; i < t->findings.count; i++) {
+        const int64_t *finding = t->found + JT_FINDING_NUMBERS * i;
+        if (finding[0] == name && finding[1] == number && finding[2] == what)
+            return 1;
+    }
+    return 0;
+}
+
+/* The call that needs the most stack, on a thread that has 40 KiB. */
+static void check_small_stack(const uint8_t *file, size_t len) {
+    static tags t;
+    t.file = file;
+    t.len = len;
+    pthread_attr_t small;
+    pthread_t thread;
+    check(pthread_attr_init(&small) == 0 && pthread_attr_setstacksize(&small, 40960) == 0, "a small stack");
+    check(pthread_create(&thread, &small, check_tags, &t) == 0 && pthread_join(thread, NULL) == 0, "a thread");
+    check(t.findings.refusal == 0, "checking tags with a small stack");
+    check(is_found(&t, ABCD, 1, JT_FINDING_NOT_IN_PROFILE), "a tag in no profile");
+}
+
 int main(void) {
     uint8_t file[256];
     size_t len = make_file(file);
@@ -789,6 +826,7 @@ int main(void) {
     check_gtc_refusals();
     check_gtc_normalising();
     check_tails();
+    check_small_stack(file, len);
     printf("%d passed, %d failed\n", passed, failed);
     return failed != 0;
 }

@@ -18,6 +18,7 @@ use std::fmt::Debug;
 pub fn all() -> Vec<(String, Run)> {
     let mut groups = [of::<Abif>(), of::<Sff>(), of::<Gtc>()].concat();
     groups.push(("program lines".to_string(), program_lines::lines));
+    groups.push(("program writes".to_string(), program_lines::writes));
     groups
 }
 

@@ -11,6 +11,8 @@ use crate::report::Group;
 use crate::samples;
 use crate::sff::Sff;
 use std::io::{self, Write};
+use std::os::fd::OwnedFd;
+use std::os::unix::net::UnixDatagram;
 use std::path::{Path, PathBuf};
 use std::process::{Command, Stdio};
 use std::time::Duration;
@@ -20,16 +22,35 @@ const LONGEST_INPUT: usize = 65_536;
 const GENERATED: usize = 60;
 
 pub fn lines(group: &mut Group) {
-    let program = program_path();
-    if !program.is_file() {
-        let message = || format!("no program at {}", program.display());
-        return group.check(false, &[], message);
-    }
+    let Some(program) = built_program(group) else {
+        return;
+    };
     stored_samples(group, &program);
     for input in generated_inputs() {
         compare_lines(group, &program, &input, input.len());
     }
     in_two_pieces(group, &program);
+}
+
+/// Each piece of a line is a write by itself, so that what a full pipe or disk keeps ends between two.
+pub fn writes(group: &mut Group) {
+    let Some(program) = built_program(group) else {
+        return;
+    };
+    let stored = samples::all().into_iter().map(|(_, bytes)| bytes);
+    for input in stored.chain(generated_files::<Abif>(99)) {
+        compare_writes(group, &program, &input);
+    }
+}
+
+fn built_program(group: &mut Group) -> Option<PathBuf> {
+    let program = program_path();
+    if program.is_file() {
+        return Some(program);
+    }
+    let message = || format!("no program at {}", program.display());
+    group.check(false, &[], message);
+    None
 }
 
 // A read of standard input may hand out less than the whole file.
@@ -153,5 +174,45 @@ fn run(program: &Path, input: &[u8], first: usize) -> io::Result<Vec<u8>> {
         Ok(output.stdout)
     } else {
         Err(io::Error::other(output.status.to_string()))
+    }
+}
+
+fn compare_writes(group: &mut Group, program: &Path, input: &[u8]) {
+    group.input();
+    let expected = program::pieces(input);
+    let written = run_by_writes(program, input);
+    let same = matches!(&written, Ok(written) if *written == expected);
+    group.check(same, input, || match written {
+        Ok(written) => format!("wrote {written:?}, expected {expected:?}"),
+        Err(error) => format!("the program did not run: {error}"),
+    });
+}
+
+// The program's output is a socket that keeps each write apart.
+fn run_by_writes(program: &Path, input: &[u8]) -> io::Result<Vec<String>> {
+    let (ours, theirs) = UnixDatagram::pair()?;
+    ours.set_read_timeout(Some(Duration::from_millis(2)))?;
+    let mut child = Command::new(program)
+        .stdin(Stdio::piped())
+        .stdout(OwnedFd::from(theirs))
+        .spawn()?;
+    let mut pipe = child.stdin.take().expect("the standard input is piped");
+    thread::scope(|scope| {
+        // A program may stop reading what is too long, so a closed pipe is no fault.
+        scope.spawn(move || pipe.write_all(input));
+        let mut written = Vec::new();
+        while child.try_wait()?.is_none() {
+            receive(&ours, &mut written);
+        }
+        receive(&ours, &mut written);
+        Ok(written)
+    })
+}
+
+// What has been written, until nothing comes for a moment.
+fn receive(socket: &UnixDatagram, written: &mut Vec<String>) {
+    let mut buffer = [0; 4096];
+    while let Ok(length) = socket.recv(&mut buffer) {
+        written.push(text(&buffer[..length]));
     }
 }
