@@ -32,7 +32,7 @@ pub fn lines(group: &mut Group) {
     in_two_pieces(group, &program);
 }
 
-/// Each piece of a line is a write by itself, so that what a full pipe or disk keeps ends between two.
+/// Each piece of a line is a write by itself, so that what a full pipe keeps ends between two.
 pub fn writes(group: &mut Group) {
     let Some(program) = built_program(group) else {
         return;
