@@ -76,7 +76,9 @@ impl<'a> SffFile<'a> {
         })
     }
 
-    // The boundary behind the n reads from read i on, counted from 0.
+    // The boundary behind the n reads from read i on, counted from 0. Inlined, as the next is: its reason would go through memory, which costs more than
+    // the walk over a few reads.
+    #[inline(always)]
     pub(crate) fn walk(self, n: usize, i: usize, b: Boundary) -> Result<Boundary, Reason>
         requires { (b.position ≤ length self.bytes.now) × (i + n < 0x8000000000000000) }
         ensures { outcome_of_judged result ≡ run (walk_past self.entry.header n i b) self.entry.bytes.now }
@@ -90,6 +92,7 @@ impl<'a> SffFile<'a> {
     }
 
     // The boundary behind the first n reads.
+    #[inline(always)]
     pub(crate) fn walk_first(self, n: usize) -> Result<Boundary, Reason>
         requires { n < 0x8000000000000000 }
         ensures { outcome_of_judged result
