@@ -92,8 +92,6 @@ fn bounds_tests(d: Entry) -> Result<(), Test>
     Ok(())
 }
 
-// Inlined, as the walk over SFF's reads is: what a failed check tells would go through memory, which costs more than the check.
-#[inline(always)]
 pub(crate) fn read_header(s: &[u8]) -> Result<Directory, Failure>
     ensures { outcome_of_opened result ≡ run opening s.now }
 {
