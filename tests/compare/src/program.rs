@@ -37,12 +37,12 @@ fn pieces_of_any_length(input: &[u8]) -> Vec<String> {
     }
 }
 
-// A negative number's sign is a piece by itself.
 fn put_number(pieces: &mut Vec<String>, word: &str, number: i128) {
     pieces.push(format!(" {word} "));
     put_signed(pieces, number);
 }
 
+// A negative number's sign is a piece by itself.
 fn put_signed(pieces: &mut Vec<String>, number: i128) {
     if number < 0 {
         pieces.push("-".to_string());

@@ -38,7 +38,10 @@ pub fn writes(group: &mut Group) {
         return;
     };
     let stored = samples::all().into_iter().map(|(_, bytes)| bytes);
-    for input in stored.chain(generated_files::<Abif>(99)) {
+    let made = at_the_limit()
+        .into_iter()
+        .chain(generated_files::<Abif>(99));
+    for input in stored.chain(made) {
         compare_writes(group, &program, &input);
     }
 }
